@@ -1,0 +1,5 @@
+pub mod ShownLemmas
+pub mod TextLemmas
+pub mod NameLemmas
+pub mod StartLemmas
+pub mod BindsLemmas

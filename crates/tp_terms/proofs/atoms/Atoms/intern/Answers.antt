@@ -1,0 +1,12 @@
+use Rattle.std.proofs.lemmas.Str.{scalars-chars}
+use Rattle.tp_terms.proofs.NameLemmas.{IsTable-with_name, Grows-with_name, Grows-keeps}
+use Rattle.tp_terms.proofs.atoms.Atoms.intern.Goals as goal
+
+pub invariant_of-self-2 : goal.invariant_of-self-2
+invariant_of-self-2 c = rw c.in_ok-at.ensures.names (IsTable-with_name _ _ c.self.invariant (scalars-chars _ c.utf8.name))
+
+pub returns-clause-keeps : goal.returns-clause-keeps
+returns-clause-keeps c = rw (c.in_ok-at.ensures.names, c.self.view_is) (Grows-keeps _ _ (Grows-with_name _ _))
+
+pub returns-clause-table : goal.returns-clause-table
+returns-clause-table c = rw c.in_ok-at.ensures.names (IsTable-with_name _ _ c.self.invariant (scalars-chars _ c.utf8.name))

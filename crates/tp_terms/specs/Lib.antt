@@ -1,0 +1,7 @@
+pub mod Term
+pub mod Code
+pub mod Shown
+pub mod Contents
+pub mod StartNames
+pub mod Names
+pub mod Binds

@@ -1,0 +1,104 @@
+//! The table of names.
+
+ghost use Rattle.std.specs.Prelude.{◌≡◌, ℕ, ◌<◌, length, slice_get, map, chars, encode_utf8_all, Some, IfOk, OnOk, OnErr};
+ghost use Rattle.tp_terms.specs.Shown.{name_at};
+ghost use Rattle.tp_terms.specs.Names.{names_of, with_name, with_names, IsTable, Grows};
+ghost use Rattle.tp_terms.specs.StartNames.{start_names};
+
+use crate::NoMemory;
+use crate::cells::AtomId;
+use crate::symbols::START_NAMES;
+use indexmap::IndexSet;
+use std::alloc::Global;
+use std::marker::Model;
+
+/// Names, each at one place. A name keeps its place for ever.
+#[derive(Drop)]
+pub struct Atoms {
+    names: IndexSet<String>,
+}
+
+impl Model for Atoms {
+    ghost use Rattle.std.specs.Prelude.{List};
+    ghost use Rattle.tp_terms.specs.Term.{Name};
+
+    ghost Value = { List Name };
+
+    ghost use Rattle.tp_terms.specs.Names.{names_of, IsTable};
+
+    ghost view = { λ a. names_of a.names.keys };
+
+    ghost invariant = { λ a. IsTable (names_of a.names.keys) };
+}
+
+impl Atoms {
+    /// The table of the start: the names of `symbols`, and no other.
+    ///
+    /// Answers `NoMemory` where the memory for it isn't had.
+    pub fn start(alloc: Global) -> Result<Atoms, NoMemory>
+        ensures names { IfOk result (λ atoms. atoms ≡ start_names) }
+        ensures table { IfOk result IsTable }
+    {
+        let mut names = IndexSet::new(alloc);
+        find_or_add_all(&mut names, &START_NAMES)?;
+        Ok(Atoms { names })
+    }
+
+    /// The one place of a name. A name that isn't in the table is added at its end.
+    ///
+    /// Answers `NoMemory` where the memory for it isn't had, and then the table is as before.
+    pub fn intern(&mut self, name: &str) -> Result<AtomId, NoMemory>
+        ensures place { IfOk result (λ atom. slice_get self.new atom.at ≡ Some (chars name.now)) }
+        ensures names { OnOk result (self.new ≡ with_name self.old (chars name.now)) }
+        ensures keeps { (at : ℕ) → at < length self.old → slice_get self.new at ≡ slice_get self.old at }
+        ensures grows { Grows self.old self.new }
+        ensures table { IsTable self.new }
+        ensures err { OnErr result (self.new ≡ self.old) }
+    {
+        let at = find_or_add(&mut self.names, name)?;
+        Ok(AtomId { at })
+    }
+
+    /// The name of an atom.
+    pub fn name(&self, atom: AtomId) -> &str
+        requires { atom.at < length self.now }
+        ensures name { slice_get self.now atom.at ≡ Some (chars result.now) }
+        ensures bytes { result.now ≡ encode_utf8_all (name_at self.now atom.at) }
+        ensures table { IsTable self.now }
+    {
+        self.names[atom.at].as_str()
+    }
+
+    /// The number of names.
+    pub fn len(&self) -> usize
+        ensures len { result ≡ length self.now }
+        ensures table { IsTable self.now }
+    {
+        self.names.len()
+    }
+}
+
+/// The place of a name, which is added behind the others where it isn't there.
+fn find_or_add(names: &mut IndexSet<String>, name: &str) -> Result<usize, NoMemory>
+    ensures place { IfOk result (λ at. slice_get (names_of names.new.keys) at ≡ Some (chars name.now)) }
+    ensures names { OnOk result (names_of names.new.keys ≡ with_name (names_of names.old.keys) (chars name.now)) }
+    ensures err { OnErr result (names_of names.new.keys ≡ names_of names.old.keys) }
+{
+    if let Some(at) = names.get_index_of(name) {
+        return Ok(at);
+    }
+    let owned = String::from_str(*names.allocator(), name)?;
+    let (at, _) = names.insert_full(owned)?;
+    Ok(at)
+}
+
+/// The same for each of these names in turn.
+fn find_or_add_all(names: &mut IndexSet<String>, more: &[&str]) -> Result<(), NoMemory>
+    ensures { let added = map (λ text. chars text.now) more.now in
+        OnOk result (names_of names.new.keys ≡ with_names (names_of names.old.keys) added) }
+{
+    for name in more {
+        find_or_add(names, name)?;
+    }
+    Ok(())
+}

@@ -1,0 +1,147 @@
+//! Terms in adjacent cells.
+
+ghost use Rattle.std.specs.Prelude.{◌≡◌, ℕ, ◌+◌, ◌-◌, ◌<◌, ◌≤◌, ◌↔◌, IsTrue, IsOk, List, [], ◌∷◌, ◌++◌, length, slice_get, take, Some, OnOk, OnErr, IfOk};
+ghost use Rattle.tp_terms.specs.Term.{Name};
+ghost use Rattle.tp_terms.specs.Shown.{StandsBefore, AreBuilt, shows, shown_from};
+
+use crate::NoMemory;
+use std::alloc::Global;
+use std::marker::Model;
+
+/// The place of a name in a table of names, counted from 0.
+#[derive(Clone, Copy, Debug, PartialEq, Eq, Hash)]
+pub struct AtomId {
+    /// The place.
+    pub at: usize,
+}
+
+/// The place of a cell, counted from 0.
+#[derive(Clone, Copy, Debug, PartialEq, Eq)]
+pub struct Ref {
+    /// The place.
+    pub at: usize,
+}
+
+/// One cell of a term (ISO/IEC 13211-1, clause 7.1).
+#[derive(Clone, Copy, Debug, PartialEq, Eq)]
+pub enum Cell {
+    /// A variable, by its number.
+    Var(u64),
+    /// An integer.
+    Int(i64),
+    /// An atom, by the place of its name.
+    Atom(AtomId),
+    /// A compound term: the place of its name, and as arguments `count` adjacent cells from `first`.
+    Comp {
+        /// The place of the name.
+        name: AtomId,
+        /// The first argument.
+        first: Ref,
+        /// How many arguments, from 1 to 255.
+        count: u8,
+    },
+}
+
+/// Terms in adjacent cells, each of which shows one term. The arguments of a compound stand before it.
+#[derive(Drop)]
+pub struct Cells {
+    cells: Vec<Cell>,
+}
+
+impl Model for Cells {
+    ghost use Rattle.std.specs.Prelude.{◌-◌, vec_len};
+    ghost use Rattle.std.specs.Vec.{vec_capacity};
+    ghost use Rattle.tp_terms.specs.Contents.{Contents};
+
+    ghost Value = { Contents };
+
+    ghost use Rattle.tp_terms.specs.Shown.{AreBuilt};
+
+    ghost view = { λ c. record { items = c.cells.items; room = vec_capacity c.cells - vec_len c.cells } };
+
+    ghost invariant = { λ c. AreBuilt c.cells.items };
+}
+
+impl Cells {
+    /// No cells.
+    pub fn new(alloc: Global) -> Self
+        ensures { result.items ≡ [] }
+    {
+        Cells {
+            cells: Vec::new(alloc),
+        }
+    }
+
+    /// Adds a cell behind the others and answers its place. No place that stood shows another term
+    /// afterwards.
+    ///
+    /// Answers `NoMemory` where the memory for it isn't had, and then no cell was added.
+    pub fn push(&mut self, cell: Cell) -> Result<Ref, NoMemory>
+        requires { StandsBefore (length self.old.items) cell }
+        ensures place { IfOk result (λ at. at.at ≡ length self.old.items) }
+        ensures items { OnOk result (self.new.items ≡ self.old.items ++ cell ∷ []) }
+        ensures shown { (names : List Name) → IfOk result (λ at.
+            shows names self.new.items at.at ≡ shown_from names self.old.items cell) }
+        ensures keeps { (names : List Name) (at : ℕ) → at < length self.old.items →
+            shows names self.new.items at ≡ shows names self.old.items at }
+        ensures err { OnErr result (self.new.items ≡ self.old.items) }
+
+        // With room it can't fail, and it uses up at most one place of it.
+        ensures succeeds { 0 < self.old.room → IsOk result }
+        ensures room { self.old.room ≤ self.new.room + 1 }
+    {
+        let at = self.cells.len();
+        self.cells.push(cell)?;
+        Ok(Ref { at })
+    }
+
+    /// The cell at a place.
+    pub fn get(&self, at: Ref) -> Cell
+        requires { at.at < length self.now.items }
+        ensures value { slice_get self.now.items at.at ≡ Some result }
+        ensures before { StandsBefore at.at result }
+        ensures shown { (names : List Name) →
+            shows names self.now.items at.at ≡ shown_from names self.now.items result }
+    {
+        self.cells[at.at]
+    }
+
+    /// The number of cells.
+    pub fn len(&self) -> usize
+        ensures value { result ≡ length self.now.items }
+        ensures built { AreBuilt self.now.items }
+    {
+        self.cells.len()
+    }
+
+    /// Whether there are no cells.
+    pub fn is_empty(&self) -> bool
+        ensures { IsTrue result ↔ (length self.now.items ≡ 0) }
+    {
+        self.len() == 0
+    }
+
+    /// Makes room for so many pushes, which then can't fail.
+    ///
+    /// Answers `NoMemory` where the memory for it isn't had.
+    pub fn reserve(&mut self, more: usize) -> Result<(), NoMemory>
+        ensures ok { OnOk result (more ≤ self.new.room) }
+        ensures items { self.new.items ≡ self.old.items }
+        ensures room { self.old.room ≤ self.new.room }
+        ensures succeeds { more ≤ self.old.room → IsOk result }
+    {
+        self.cells.reserve(more)?;
+        Ok(())
+    }
+
+    /// Keeps the first `len` cells, and the memory of the others as room. Takes no memory.
+    pub fn cut_to(&mut self, len: usize)
+        requires { len ≤ length self.old.items }
+        ensures items { self.new.items ≡ take len self.old.items }
+        ensures keeps { (names : List Name) (at : ℕ) → at < len →
+            shows names self.new.items at ≡ shows names self.old.items at }
+        ensures room { self.new.room ≡ self.old.room + (length self.old.items - len) }
+    {
+        self.cells.truncate(len);
+    }
+}
