@@ -1,0 +1,85 @@
+-- What holds of each world of a state, and stays.
+use Rattle.std.proofs.Common.{ℕ, Bool, true, false, cond, nat_lt, List, [], ◌∷◌}
+use Rattle.std.specs.List.{AllByRecursion}
+use Rattle.tp_meaning.specs.Search.{Searched, Step, Success, Dead, Raise, Commit, Branch}
+use Rattle.tp_meaning.specs.Machine.{Choice, State, stepped_by, stepped, rewound, rewound_to, resumed, resumed_by, resumed_from, with_choice, cut_from}
+use Rattle.tp_meaning.specs.World.{World}
+use Rattle.tp_meaning.specs.Turn.{Gives}
+use Rattle.tp_meaning.specs.Valid.{Valid, Follows, EachFollows, ClauseFits}
+use Rattle.tp_meaning.specs.Clauses.{Base}
+use Rattle.tp_meaning.specs.Step.{step, searched}
+use Rattle.tp_meaning.proofs.Places.{all-weaker}
+use Rattle.tp_meaning.proofs.Rise.{stamps_rise}
+
+-- each world that a step gives has P
+abbrev pub EachHolds : {W E : Type 0} → (W → Type 0) → Step W E → Type 0
+EachHolds P Success = Unit {0}
+EachHolds P (Dead c) = Unit {0}
+EachHolds P (Raise e) = Unit {0}
+EachHolds P (Commit c v) = P v
+EachHolds P (Branch v more) = P v × AllByRecursion P more
+
+-- the world of a choice, and its untried worlds, have P
+abbrev pub ChoiceHolds : {W : Type 0} → (W → Type 0) → Choice W → Type 0
+ChoiceHolds P c = P c.world × AllByRecursion P c.untried
+
+-- the current world and the choices
+pub record Holds {W : Type 0} (P : W → Type 0) (s : State W) : Type 0 where
+  pub world : P s.world
+  pub choices : AllByRecursion (ChoiceHolds P) s.choices
+
+choice-with : {W : Type 0} (P : W → Type 0) (d : ℕ) (w : W) (more : List W) (cs : List (Choice W)) → P w → AllByRecursion P more → AllByRecursion (ChoiceHolds P) cs → AllByRecursion (ChoiceHolds P) (with_choice d w more cs)
+choice-with P d w [] cs p a h = h
+choice-with P d w (v ∷ more) cs p a h = ((p, a), h)
+
+choice-cut : {W : Type 0} (P : W → Type 0) (c : ℕ) (cs : List (Choice W)) → AllByRecursion (ChoiceHolds P) cs → AllByRecursion (ChoiceHolds P) (cut_from c cs)
+choice-cut P c [] h = tt
+choice-cut P c (y ∷ ys) h = go (nat_lt y.stamp c) (choice-cut P c ys h.1)
+  where
+    go : (b : Bool) → AllByRecursion (ChoiceHolds P) (cut_from c ys) → AllByRecursion (ChoiceHolds P) (cond b (y ∷ ys) (cut_from c ys))
+    go true k = h
+    go false k = k
+
+pub stepped_by-holds : {W E : Type 0} (P : W → Type 0) (x : Searched W E) (g : Step W E) (s : State W) → EachHolds P g → Holds P s → Holds P (stepped_by x g s).1
+stepped_by-holds P x Success s e h = h
+stepped_by-holds P x (Dead c) s e h = h
+stepped_by-holds P x (Raise r) s e h = h
+stepped_by-holds P x (Commit c v) s e h = record { world = e; choices = choice-cut P c s.choices h.choices }
+stepped_by-holds P x (Branch v more) s e h = record { world = e.0; choices = choice-with P (x.stamp s.world) s.world more s.choices h.world e.1 h.choices }
+
+pub stepped-holds : {W E : Type 0} (P : W → Type 0) (x : Searched W E) (s : State W) → EachHolds P (x.step s.world) → Holds P s → Holds P (stepped x s).1
+stepped-holds P x s e h = stepped_by-holds P x (x.step s.world) s e h
+
+rewound_to-holds : {W : Type 0} (P : W → Type 0) (s : State W) (cs : List (Choice W)) → AllByRecursion (ChoiceHolds P) cs → Holds P s → Holds P (rewound_to s cs).1
+rewound_to-holds P s [] a h = h
+rewound_to-holds P s (c ∷ cs) a h = record { world = a.0.0; choices = h.choices }
+
+pub rewound-holds : {W : Type 0} (P : W → Type 0) (s : State W) → Holds P s → Holds P (rewound s).1
+rewound-holds P s h = rewound_to-holds P s s.choices h.choices h
+
+resumed_by-holds : {W : Type 0} (P : W → Type 0) (s : State W) (c : Choice W) (ws : List W) (cs : List (Choice W)) → P s.world → P c.world → AllByRecursion P ws → AllByRecursion (ChoiceHolds P) cs → Holds P (resumed_by s c ws cs)
+resumed_by-holds P s c [] cs p q a h = record { world = p; choices = h }
+resumed_by-holds P s c (v ∷ more) cs p q a h = record { world = a.0; choices = choice-with P c.stamp c.world more cs q a.1 h }
+
+resumed_from-holds : {W : Type 0} (P : W → Type 0) (s : State W) (cs : List (Choice W)) → AllByRecursion (ChoiceHolds P) cs → Holds P s → Holds P (resumed_from s cs)
+resumed_from-holds P s [] a h = h
+resumed_from-holds P s (c ∷ cs) a h = resumed_by-holds P s c c.untried cs h.world a.0.0 a.0.1 a.1
+
+pub resumed-holds : {W : Type 0} (P : W → Type 0) (s : State W) → Holds P s → Holds P (resumed s)
+resumed-holds P s h = resumed_from-holds P s s.choices h.choices h
+
+-- ---- valid worlds
+
+follows-valid : (d : ℕ) (g : Gives) → EachFollows d g → EachHolds Valid g
+follows-valid d Success h = tt
+follows-valid d (Dead c) h = tt
+follows-valid d (Raise e) h = tt
+follows-valid d (Commit c v) h = h.valid
+follows-valid d (Branch v more) h = (h.0.valid, all-weaker (Follows d) Valid (λ w k. k.valid) more h.1)
+
+-- each world of a step of a valid world is valid
+pub step-valid : (base : Base) (w : World) → AllByRecursion ClauseFits base → Valid w → EachHolds Valid (step base w)
+step-valid base w a v = follows-valid w.stamp (step base w) (stamps_rise base w a v)
+
+pub stepped-valid : (base : Base) (s : State World) → AllByRecursion ClauseFits base → Holds Valid s → Holds Valid (stepped (searched base) s).1
+stepped-valid base s a h = stepped-holds Valid (searched base) s (step-valid base s.world a h.world) h

@@ -1,0 +1,100 @@
+-- Worlds that a running process goes on to are valid.
+use Rattle.std.proofs.Common.{◌≡◌, ℕ, zero, suc, ◌+◌, ◌≤◌, Bool, true, false, List, [], ◌∷◌, length, Option, Some, None, IfOk, IfSome, refl, ap, ◌∙◌, sym, arith, if◌then◌else◌}
+use Rattle.tp_terms.specs.Term.{Term, Var, Int, Atom, Comp, NoMore, More}
+use Rattle.tp_meaning.specs.Body.{body, joins_goals, pair_body}
+use Rattle.tp_meaning.specs.World.{World, Process, Item, Goal, Commit, Retry, at_place, with_items, stamped, status_at}
+use Rattle.tp_meaning.specs.Valid.{Below, ItemFits, ItemsFit, busy, waits_or_runs, Valid, Follows, EachFollows, is_running, due}
+use Rattle.tp_meaning.specs.Turn.{Turn, going}
+use Rattle.tp_meaning.specs.Control as c
+use Rattle.tp_meaning.specs.Control.{Control, control}
+use Rattle.tp_meaning.proofs.Places.{map-at_place, length-at_place, all-at_place, all-weaker}
+
+pub status-same : (f : Process → Process) → ((q : Process) → (f q).status ≡ q.status) → (n : ℕ) (ps : List Process) (q : ℕ) → status_at (at_place n f ps) q ≡ status_at ps q
+status-same f h n [] q = refl
+status-same f h zero (x ∷ xs) zero = h x
+status-same f h zero (x ∷ xs) (suc q) = refl
+status-same f h (suc n) (x ∷ xs) zero = refl
+status-same f h (suc n) (x ∷ xs) (suc q) = status-same f h n xs q
+
+pub busy-same : (f : Process → Process) → ((q : Process) → (f q).status ≡ q.status) → (n : ℕ) (ps : List Process) → busy (at_place n f ps) ≡ busy ps
+busy-same f h n [] = refl
+busy-same f h zero (x ∷ xs) = ap (λ s. waits_or_runs s + busy xs) (h x)
+busy-same f h (suc n) (x ∷ xs) = ap (λ k. waits_or_runs x.status + k) (busy-same f h n xs)
+
+-- a later stamp
+pub item-later : (n d : ℕ) (i : Item) → ItemFits n d i → ItemFits n (d + 1) i
+item-later n d (Goal g b) h = (h.0, omega arith)
+item-later n d (Commit c) h = omega arith
+item-later n d (Retry g) h = h
+
+pub items-later : (n d : ℕ) (is : List Item) → ItemsFit n d is → ItemsFit n (d + 1) is
+items-later n d is h = all-weaker (ItemFits n d) (ItemFits n (d + 1)) (item-later n d) is h
+
+-- the process has other items
+pub keeps : (w : World) (p : ℕ) (items : List Item) → Valid w → ItemsFit w.next (w.stamp + 1) items → Follows w.stamp (with_items p items (stamped w))
+keeps w p items v fit =
+    let f : Process → Process = λ q. record q { items = items } in
+    let len : length (at_place p f w.processes) ≡ length w.processes = length-at_place f p w.processes in
+    record {
+      valid = record {
+        distinct = rw (map-at_place (λ q. q.name) f (λ q. refl) p w.processes) v.distinct;
+        box_each = v.box_each ∙ sym len;
+        entries = rw len v.entries;
+        in_order = v.in_order;
+        placed = λ q. v.placed q ∙ ap due (sym (status-same f (λ x. refl) p w.processes q));
+        one_runs = λ q. ap is_running (status-same f (λ x. refl) p w.processes q) ∙ v.one_runs q;
+        from_zero = v.from_zero;
+        none_late = all-at_place _ f (λ q h. h) p w.processes v.none_late;
+        events = rw len v.events;
+        todo = all-at_place _ f (λ q h. fit) p w.processes (all-weaker _ (λ q. ItemsFit w.next (w.stamp + 1) q.items) (λ q h. items-later w.next w.stamp q.items h) w.processes v.todo);
+        mail = v.mail;
+        bindings = v.bindings;
+        is_subst = v.is_subst;
+        insertions = let h : w.insertion + busy w.processes ≤ w.stamp + 1 = v.insertions in rw (busy-same f (λ x. refl) p w.processes) (omega arith);
+      };
+      stamp = refl;
+    }
+
+pub going-follows : (t : Turn) (items : List Item) → Valid t.world → ItemsFit t.world.next (t.world.stamp + 1) items → Follows t.world.stamp (going t items)
+going-follows t items v fit = keeps t.world t.process items v fit
+
+-- ---- bodies
+
+pair_body-below : (n : ℕ) (f : List ℕ) (a b : Option Term) → IfSome a (Below n) → IfSome b (Below n) → IfSome (pair_body f a b) (Below n)
+pair_body-below n f None None x y = tt
+pair_body-below n f None (Some b) x y = tt
+pair_body-below n f (Some a) None x y = tt
+pair_body-below n f (Some a) (Some b) x y = (x, (y, tt))
+
+pub body-below : (n : ℕ) (g : Term) → Below n g → IfSome (body g) (Below n)
+body-below n (Var v) h = (h, tt)
+body-below n (Int z) h = tt
+body-below n (Atom a) h = tt
+body-below n (Comp f (More a (More b NoMore))) h = go (joins_goals f) (pair_body-below n f (body a) (body b) (body-below n a h.0) (body-below n b h.1.0))
+  where
+    go : (b' : Bool) → IfSome (pair_body f (body a) (body b)) (Below n) → IfSome (if b' then pair_body f (body a) (body b) else Some (Comp f (More a (More b NoMore)))) (Below n)
+    go true x = x
+    go false x = h
+body-below n (Comp f ts) h = h
+
+-- ---- control goals
+
+-- the arguments of a control goal have variables below a number
+abbrev pub ControlFits : ℕ → Control → Type 0
+ControlFits n c.True = Unit {0}
+ControlFits n c.Fail = Unit {0}
+ControlFits n (c.And x y) = Below n x × Below n y
+
+pub control-follows : (t : Turn) (b : ℕ) (k : Control) → Valid t.world → b ≤ t.world.stamp → ControlFits t.world.next k → ItemsFit t.world.next t.world.stamp t.rest → IfOk (control t b k) (EachFollows t.world.stamp)
+control-follows t b k v le fit now = go k fit
+  where
+    rest : ItemsFit t.world.next (t.world.stamp + 1) t.rest
+    rest = items-later t.world.next t.world.stamp t.rest now
+
+    to : (items : List Item) → ItemsFit t.world.next (t.world.stamp + 1) items → Follows t.world.stamp (going t items)
+    to items h = going-follows t items v h
+
+    go : (k : Control) → ControlFits t.world.next k → IfOk (control t b k) (EachFollows t.world.stamp)
+    go c.True h = (to t.rest rest, tt)
+    go c.Fail h = tt
+    go (c.And x y) h = (to (Goal x b ∷ Goal y b ∷ t.rest) ((h.0, omega arith), ((h.1, omega arith), rest)), tt)

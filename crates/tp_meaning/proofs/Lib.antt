@@ -1,0 +1,23 @@
+pub mod Terms
+pub mod Unify
+pub mod Complete
+pub mod SearchRules
+pub mod Loop
+pub mod Stack
+pub mod Turns
+pub mod Places
+pub mod Keeps
+pub mod Acts
+pub mod Under
+pub mod Leaves
+pub mod Goes
+pub mod Rise
+pub mod Rises
+pub mod Holds
+pub mod Made
+pub mod OneUnifier
+pub mod Applied
+pub mod Bodies
+pub mod Seen
+mod Rows
+mod RowsOfParts

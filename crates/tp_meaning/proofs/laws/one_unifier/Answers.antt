@@ -1,0 +1,5 @@
+use Rattle.tp_meaning.proofs.OneUnifier.{one_unifier}
+use Rattle.tp_meaning.proofs.laws.one_unifier.Goals as goal
+
+pub returns : goal.returns
+returns c = one_unifier

@@ -1,0 +1,17 @@
+pub mod Order
+pub mod Subst
+pub mod Unifier
+pub mod Lookup
+pub mod Checks
+pub mod Body
+pub mod World
+pub mod Search
+pub mod Rules
+pub mod Machine
+pub mod Turn
+pub mod Control
+pub mod Process
+pub mod Scheduler
+pub mod Clauses
+pub mod Step
+pub mod Valid

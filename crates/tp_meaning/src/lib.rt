@@ -1,0 +1,28 @@
+//! The meaning of a model: worlds, a step of one, and the search.
+#![tactic(auto)]
+
+pub mod laws;
+
+/// Why a world is a dead end.
+#[derive(Clone, Copy, Debug, PartialEq, Eq)]
+pub enum DeadCause {
+    /// A goal failed.
+    Failed,
+    /// No process can go on, and some isn't ended.
+    Deadlock,
+    /// A process would live past its end time.
+    Late,
+}
+
+#[cfg(test)]
+mod tests {
+    use super::*;
+
+    #[test]
+    fn laws_can_be_called(rt: HostRuntime) {
+        laws::search_rules();
+        laws::stamps_rise();
+        laws::one_unifier();
+        assert!(rt; DeadCause::Failed != DeadCause::Late);
+    }
+}
