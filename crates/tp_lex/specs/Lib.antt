@@ -1,0 +1,10 @@
+pub mod Seen
+pub mod Characters
+pub mod Layout
+pub mod Digits
+pub mod Escapes
+pub mod Quotes
+pub mod Integers
+pub mod Form
+pub mod Next
+pub mod Tokens
