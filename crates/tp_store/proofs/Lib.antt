@@ -1,0 +1,10 @@
+pub mod ChainLemmas
+pub mod KeptLemmas
+pub mod FitsLemmas
+pub mod WorkLemmas
+pub mod StepLemmas
+pub mod SolveLemmas
+pub mod UnifierLemmas
+pub mod CopyLemmas
+pub mod TaskLemmas
+pub mod StoreLemmas

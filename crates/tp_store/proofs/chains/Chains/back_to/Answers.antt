@@ -1,0 +1,14 @@
+use Rattle.std.proofs.Common.{refl, length, ap, sym, subst, ◌≤◌, arith}
+use Rattle.std.proofs.lemmas.List.{length-take}
+use Rattle.tp_store.specs.Contents.{cut_to_mark}
+use Rattle.tp_store.specs.Chain.{contents_of, IsTable}
+use Rattle.tp_store.proofs.KeptLemmas.{IsStore-cut, IsTable-cut, IsChains-of}
+use Rattle.tp_store.proofs.chains.Chains.back_to.Goals as goal
+
+pub returns-clause-chains : goal.returns-clause-chains
+returns-clause-chains c =
+    let old = contents_of c.args.self.now in
+    let bound = c.args.self.now.bound.items in
+    IsChains-of _ (cut_to_mark old c.args.mark) c.cut_to.ensures.items refl (let le : c.args.mark.vars ≤ length bound = c.requires.can.vars in omega (arith, ap length c.truncate.ensures.items, length-take c.args.mark.vars bound))
+    (IsStore-cut old c.args.mark c.requires.chains.store c.requires.can)
+    (subst (λ os. IsTable os old.pairs) (sym c.truncate.ensures.items) (IsTable-cut bound old.pairs c.args.mark.vars c.requires.chains.table c.requires.can.numbers))

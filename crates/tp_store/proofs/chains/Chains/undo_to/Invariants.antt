@@ -1,0 +1,15 @@
+use Rattle.std.proofs.Common.{◌≡◌, ◌≤◌, length, take}
+use Rattle.tp_store.specs.Chain.{IsChains}
+use Rattle.tp_store.proofs.chains.Chains.undo_to.Given as goal
+
+abbrev pub invariant-undo : goal.invariant-undo
+invariant-undo l = record {
+  chains : IsChains l.self;
+  kept : l.kept ≤ length l.self.pairs.items;
+  cells : l.self.cells ≡ l.fn.self.cells;
+  vars : length l.self.bound.items ≡ length l.fn.self.bound.items;
+  pairs : take l.kept l.self.pairs.items ≡ take l.kept l.fn.self.pairs.items;
+}
+
+abbrev pub decreases-undo : goal.decreases-undo
+decreases-undo l = length l.self.pairs.items

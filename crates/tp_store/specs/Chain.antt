@@ -1,0 +1,44 @@
+-- Chained bindings, as the code keeps them.
+use Rattle.std.specs.Prelude.{◌≡◌, ℕ, ◌+◌, ◌<◌, List, Option, Some, None, length, reverse, slice_get, slice_index_or}
+use Rattle.tp_terms.specs.declared.cells.Cell.{Cell}
+use Rattle.tp_terms.specs.declared.cells.Cell.TheVariants as cell
+use Rattle.tp_terms.specs.declared.cells.Ref.{Ref}
+use Rattle.tp_terms.specs.Term.{Name}
+use Rattle.tp_terms.specs.Shown.{StandsBefore}
+use Rattle.tp_terms.specs.Binds.{Bindings, bound_in}
+use Rattle.tp_store.specs.declared.chains.Chains.{Chains}
+use Rattle.tp_store.specs.declared.chains.End.{End}
+use Rattle.tp_store.specs.Contents.{Contents, IsStore, IsUnbound, IsNumbered, seen, seen_cell}
+
+-- what the bindings and cells hold; the list in memory has the newest binding last
+abbrev pub contents_of : Chains → Contents
+contents_of s = record { cells = s.cells.items; pairs = reverse s.pairs.items; vars = length s.bound.items }
+
+-- the table by number has what the list has
+pub record IsTable (bound : List (Option Ref)) (pairs : Bindings) : Type 0 where
+  pub kept : (v : ℕ) → slice_index_or bound v None ≡ bound_in pairs v
+
+pub record IsChains (s : Chains) : Type 0 where
+  pub store : IsStore (contents_of s)
+  pub table : IsTable s.bound.items (reverse s.pairs.items)
+
+-- a place at which a chain of bindings ends, and its cell
+pub record IsEnd (c : Contents) (e : End) : Type 0 where
+  pub place : e.place.at < length c.cells
+  pub cell : slice_get c.cells e.place.at ≡ Some e.cell
+  pub before : StandsBefore e.place.at e.cell
+  pub unbound : IsUnbound c.pairs e.cell
+  pub numbered : IsNumbered c.vars e.cell
+
+-- how far a chain of variables can still fall
+abbrev pub rank : Cell → ℕ
+rank (cell.Var v) = v + 1
+rank (cell.Int value) = 0
+rank (cell.Atom name) = 0
+rank (cell.Comp name first count) = 0
+
+-- a bound variable's place shows what the variable stands for, and a variable there is older
+pub record LeadsOn (c : Contents) (x : Cell) (next : Ref) : Type 0 where
+  pub within : next.at < length c.cells
+  pub same : (names : List Name) → seen names c next.at ≡ seen_cell names c x
+  pub falls : (y : Cell) → slice_get c.cells next.at ≡ Some y → rank y < rank x

@@ -1,0 +1,4 @@
+pub mod Contents
+pub mod Chain
+pub mod Work
+pub mod Copy

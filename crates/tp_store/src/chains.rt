@@ -1,0 +1,157 @@
+//! Terms and chained bindings, whose facts callers keep: `Store` hides them.
+
+ghost use Rattle.std.specs.Prelude.{◌≡◌, ◌+◌, ◌<◌, ◌≤◌, List, [], ◌∷◌, length, take, reverse, slice_set, Some, IsOk, OnOk, OnErr, IfOk, IfSome, IfNone};
+ghost use Rattle.tp_terms.specs.Term.{Name};
+ghost use Rattle.tp_terms.specs.Shown.{StandsBefore, shown_from, shows};
+ghost use Rattle.tp_store.specs.Contents.{Contents, IsStore, Adds, CanGoBack, IsNumbered, IsUnbound, cut_to_mark, with_cell, with_vars, with_pair, seen, seen_cell};
+ghost use Rattle.tp_store.specs.Chain.{IsChains, IsEnd, LeadsOn, contents_of};
+
+use std::alloc::Global;
+use tp_terms::{Cell, Cells, NoMemory, Ref, StoreMark};
+
+/// Terms, and what their variables are bound to.
+#[derive(Drop)]
+pub struct Chains {
+    /// The terms.
+    pub cells: Cells,
+    /// What each variable is bound to, by its number.
+    pub bound: Vec<Option<Ref>>,
+    /// The bindings in their order.
+    pub pairs: Vec<(u64, Ref)>,
+}
+
+/// The end of a chain of bindings.
+#[derive(Clone, Copy)]
+pub struct End {
+    /// The last place.
+    pub place: Ref,
+    /// Its cell, which is no bound variable.
+    pub cell: Cell,
+}
+
+impl Chains {
+    /// No terms.
+    pub fn new(alloc: Global) -> Self
+        ensures chains { IsChains result }
+        ensures value { contents_of result ≡ record { cells = []; pairs = []; vars = 0 } }
+    {
+        Chains {
+            cells: Cells::new(alloc),
+            bound: Vec::new(alloc),
+            pairs: Vec::new(alloc),
+        }
+    }
+
+    /// The place that a variable is bound to.
+    fn step(&self, cell: Cell) -> Option<Ref>
+        requires chains { IsChains self.now }
+        requires numbered { IsNumbered (length self.now.bound.items) cell }
+        ensures end { IfNone result (IsUnbound (contents_of self.now).pairs cell) }
+        ensures on { IfSome result (λ next. LeadsOn (contents_of self.now) cell next) }
+    {
+        match cell {
+            Cell::Var(number) => self.bound[number as usize],
+            _ => None,
+        }
+    }
+
+    /// Follows bindings from a place.
+    pub fn end(&self, at: Ref) -> End
+        requires chains { IsChains self.now }
+        requires place { at.at < length self.now.cells.items }
+        ensures end { IsEnd (contents_of self.now) result }
+        ensures same { (names : List Name) → seen_cell names (contents_of self.now) result.cell ≡ seen names (contents_of self.now) at.at }
+    {
+        let mut place = at;
+        let mut cell = self.cells.get(place);
+        'chain: while let Some(next) = self.step(cell) {
+            place = next;
+            cell = self.cells.get(place);
+        }
+        End { place, cell }
+    }
+
+    /// Adds a cell. No place that stood shows another term afterwards.
+    pub fn place(&mut self, cell: Cell) -> Result<Ref, NoMemory>
+        requires chains { IsChains self.old }
+        requires before { StandsBefore (length self.old.cells.items) cell }
+        requires numbered { IsNumbered (length self.old.bound.items) cell }
+        ensures chains { IsChains self.new }
+        ensures place { IfOk result (λ at. at.at ≡ length self.old.cells.items) }
+        ensures value { OnOk result (contents_of self.new ≡ with_cell (contents_of self.old) cell) }
+        ensures err { OnErr result (contents_of self.new ≡ contents_of self.old) }
+        ensures succeeds { 0 < self.old.cells.room → IsOk result }
+    {
+        let at = self.cells.push(cell)?;
+        Ok(at)
+    }
+
+    /// The first of so many new variable numbers.
+    pub fn claim(&mut self, n: u64) -> Result<u64, NoMemory>
+        requires chains { IsChains self.old }
+        ensures chains { IsChains self.new }
+        ensures first { IfOk result (λ first. first ≡ length self.old.bound.items) }
+        ensures value { OnOk result (contents_of self.new ≡ with_vars (contents_of self.old) n) }
+        ensures err { OnErr result (contents_of self.new ≡ contents_of self.old) }
+        ensures cells { self.new.cells ≡ self.old.cells }
+    {
+        let first = self.bound.len();
+        let Some(len) = first.checked_add(n as usize) else {
+            return Err(NoMemory);
+        };
+        self.bound.resize(len, None)?;
+        Ok(first as u64)
+    }
+
+    /// A new unbound variable.
+    pub fn fresh(&mut self) -> Result<Ref, NoMemory>
+        requires chains { IsChains self.old }
+        ensures chains { IsChains self.new }
+        ensures place { IfOk result (λ at. at.at ≡ length self.old.cells.items) }
+        ensures value { OnOk result (contents_of self.new ≡ with_cell (with_vars (contents_of self.old) 1) (Cell.Var (length self.old.bound.items))) }
+        ensures err { OnErr result (contents_of self.new ≡ contents_of self.old) }
+    {
+        self.cells.reserve(1)?;
+        let number = self.claim(1)?;
+        self.place(Cell::Var(number))
+    }
+
+    /// Binds an unbound variable to a place whose term doesn't have it.
+    pub fn bind(&mut self, number: u64, place: Ref) -> Result<(), NoMemory>
+        requires chains { IsChains self.old }
+        requires adds { (names : List Name) → Adds names self.old.cells.items (length self.old.bound.items) (contents_of self.old).pairs number place }
+        ensures chains { IsChains self.new }
+        ensures value { OnOk result (contents_of self.new ≡ with_pair (contents_of self.old) number place) }
+        ensures err { OnErr result (contents_of self.new ≡ contents_of self.old) }
+        ensures table { OnOk result (self.new.bound.items ≡ slice_set self.old.bound.items number (Some place)) }
+    {
+        self.pairs.push((number, place))?;
+        self.bound[number as usize] = Some(place);
+        Ok(())
+    }
+
+    /// Takes the newest bindings back, down to so many.
+    pub fn undo_to(&mut self, kept: usize)
+        requires chains { IsChains self.old }
+        requires kept { kept ≤ length self.old.pairs.items }
+        ensures chains { IsChains self.new }
+        ensures value { contents_of self.new ≡ record { cells = self.old.cells.items; pairs = reverse (take kept self.old.pairs.items); vars = length self.old.bound.items } }
+    {
+        'undo: while self.pairs.len() > kept {
+            if let Some(newest) = self.pairs.pop() {
+                self.bound[newest.0 as usize] = None;
+            }
+        }
+    }
+
+    /// Cuts cells and variable numbers to a mark. The bindings stay.
+    pub fn back_to(&mut self, mark: StoreMark)
+        requires chains { IsChains self.old }
+        requires can { CanGoBack (contents_of self.old) mark }
+        ensures chains { IsChains self.new }
+        ensures value { contents_of self.new ≡ cut_to_mark (contents_of self.old) mark }
+    {
+        self.cells.cut_to(mark.cells);
+        self.bound.truncate(mark.vars as usize);
+    }
+}

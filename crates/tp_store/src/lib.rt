@@ -1,0 +1,12 @@
+//! The store: terms in cells, and what their variables are bound to.
+#![tactic(auto)]
+
+mod chains;
+mod copy;
+mod pairs;
+mod solve;
+pub mod store;
+#[cfg(test)]
+mod tests;
+
+pub use store::Store;

@@ -1,0 +1,197 @@
+//! The store.
+
+ghost use Rattle.std.specs.Prelude.{◌≡◌, ◌≢◌, ℕ, ◌<◌, List, [], length, true, Ok, Some, None, is_some, OnOk, OnErr, IfOk, if◌then◌else◌};
+ghost use Rattle.tp_terms.specs.Term.{Name};
+ghost use Rattle.tp_terms.specs.Shown.{AreNamed, StandsBefore, shows};
+ghost use Rattle.tp_terms.specs.Binds.{Fits};
+ghost use Rattle.tp_meaning.specs.Clauses.{renamed};
+ghost use Rattle.tp_meaning.specs.Subst.{mgu};
+ghost use Rattle.tp_store.specs.Contents.{AddsCells, AddsPairs, IsStore, Names, IsNumbered, IsUnbound, CanGoBack, Keeps, cut_to_mark, with_cell, with_vars, seen, seen_cell, subst_of};
+ghost use Rattle.tp_store.specs.Copy.{IsClaimed};
+
+use crate::chains::Chains;
+use crate::copy::instance;
+use crate::solve::{unifiable, unify};
+use std::alloc::Global;
+use std::marker::Model;
+use tp_terms::{Binds, Cell, Cells, NoMemory, Ref, StoreMark};
+
+/// Terms in cells, and what their variables are bound to. Contracts see its cells, its bindings and
+/// how many variable numbers were claimed; `subst_of` of specs/Contents.antt is the substitution that
+/// the bindings stand for, and `IsStore` tells the facts that hold of every store.
+#[derive(Drop)]
+pub struct Store {
+    chains: Chains,
+}
+
+impl Model for Store {
+    ghost use Rattle.tp_store.specs.Contents.{Contents};
+    ghost use Rattle.tp_store.specs.Chain.{IsChains, contents_of};
+
+    ghost Value = { Contents };
+
+    ghost view = { λ s. contents_of s.chains };
+
+    ghost invariant = { λ s. IsChains s.chains };
+}
+
+impl Store {
+    /// No terms, and no variable numbers. Takes no memory.
+    pub fn new(alloc: Global) -> Store
+        ensures { result ≡ record { cells = []; pairs = []; vars = 0 } }
+    {
+        Store {
+            chains: Chains::new(alloc),
+        }
+    }
+
+    /// The first of `n` new variable numbers.
+    ///
+    /// Answers `NoMemory` where the memory for them isn't had, and then the store is as before.
+    pub fn claim(&mut self, n: u64) -> Result<u64, NoMemory>
+        ensures first { IfOk result (λ first. first ≡ self.old.vars) }
+        ensures value { OnOk result (self.new ≡ with_vars self.old n) }
+        ensures err { OnErr result (self.new ≡ self.old) }
+        ensures store { IsStore self.new }
+    {
+        self.chains.claim(n)
+    }
+
+    /// A place for a new unbound variable, of the next number.
+    ///
+    /// Answers `NoMemory` where the memory for it isn't had, and then the store is as before.
+    pub fn fresh(&mut self) -> Result<Ref, NoMemory>
+        ensures place { IfOk result (λ at. at.at ≡ length self.old.cells) }
+        ensures value { OnOk result (self.new ≡ with_cell (with_vars self.old 1) (Cell.Var self.old.vars)) }
+        ensures keeps { OnOk result (Keeps self.old self.new) }
+        ensures err { OnErr result (self.new ≡ self.old) }
+        ensures store { IsStore self.new }
+    {
+        self.chains.fresh()
+    }
+
+    /// Adds a cell behind the others and answers its place. No place that stood shows another term
+    /// afterwards, under the bindings or without them.
+    ///
+    /// Answers `NoMemory` where the memory for it isn't had, and then the store is as before.
+    pub fn place(&mut self, cell: Cell) -> Result<Ref, NoMemory>
+        requires before { StandsBefore (length self.old.cells) cell }
+        requires numbered { IsNumbered self.old.vars cell }
+        ensures place { IfOk result (λ at. at.at ≡ length self.old.cells) }
+        ensures value { OnOk result (self.new ≡ with_cell self.old cell) }
+        ensures keeps { OnOk result (Keeps self.old self.new) }
+        ensures err { OnErr result (self.new ≡ self.old) }
+        ensures store { IsStore self.new }
+    {
+        self.chains.place(cell)
+    }
+
+    /// A place for the term of `root` in `from`, its variable `k` as number `base + k`. No place that
+    /// stood shows another term afterwards. The condition `claimed` is that these numbers were claimed.
+    ///
+    /// Answers `NoMemory` where the memory for it isn't had, and then the store is as before.
+    pub fn instance(&mut self, from: &Cells, root: Ref, base: u64) -> Result<Ref, NoMemory>
+        requires root { root.at < length from.now.items }
+        requires claimed { IsClaimed from.now.items root.at base self.old.vars }
+        ensures adds { AddsCells self.old self.new }
+        ensures keeps { Keeps self.old self.new }
+        ensures place { IfOk result (λ at. at.at < length self.new.cells) }
+        ensures shown { IfOk result (λ at. (names : List Name) → shows names self.new.cells at.at ≡ renamed base (shows names from.now.items root.at)) }
+        ensures err { OnErr result (self.new ≡ self.old) }
+        ensures store { IsStore self.new }
+
+        // A table of names for both has every atom of the new cells.
+        ensures named { OnOk result ((n : ℕ) → AreNamed n from.now.items → AreNamed n self.old.cells → AreNamed n self.new.cells) }
+    {
+        let alloc = *self.chains.pairs.allocator();
+        instance(&mut self.chains, alloc, from, root, base)
+    }
+
+    /// The cells of all places.
+    pub fn cells(&self) -> &Cells
+        ensures cells { result.now.items ≡ self.now.cells }
+        ensures fits { Fits self.now.pairs self.now.cells }
+        ensures store { IsStore self.now }
+    {
+        &self.chains.cells
+    }
+
+    /// The cell that a place shows once bindings are followed: no bound variable.
+    pub fn top(&self, at: Ref) -> Cell
+        requires { at.at < length self.now.cells }
+        ensures seen { (names : List Name) → seen_cell names self.now result ≡ seen names self.now at.at }
+        ensures unbound { IsUnbound self.now.pairs result }
+        ensures before { StandsBefore (length self.now.cells) result }
+        ensures numbered { IsNumbered self.now.vars result }
+    {
+        self.chains.end(at).cell
+    }
+
+    /// Makes the terms of two places equal, by the fewest bindings that do: the most general unifier
+    /// over the substitution so far, with occurs check (ISO/IEC 13211-1, clause 7.3). Of two unbound
+    /// variables the younger takes the older's name. False exactly where there is no unifier, and then
+    /// nothing is bound.
+    ///
+    /// Answers `NoMemory` where the memory for it isn't had, and then nothing is bound.
+    pub fn unify(&mut self, left: Ref, right: Ref) -> Result<bool, NoMemory>
+        requires left { left.at < length self.old.cells }
+        requires right { right.at < length self.old.cells }
+
+        // Names are compared by their places, so this holds under each table of names that has each
+        // name once.
+        ensures found { IfOk result (λ found. (names : List Name) → Names names self.old.cells →
+            mgu (subst_of names self.old) (shows names self.old.cells left.at) (shows names self.old.cells right.at)
+            ≡ (if found then Some (subst_of names self.new) else None)) }
+        ensures adds { AddsPairs self.old self.new }
+        ensures unchanged { result ≢ Ok true → self.new ≡ self.old }
+        ensures store { IsStore self.new }
+    {
+        let alloc = *self.chains.pairs.allocator();
+        unify(&mut self.chains, alloc, left, right)
+    }
+
+    /// What `unify` would answer. Nothing is bound.
+    ///
+    /// Answers `NoMemory` where the memory for it isn't had.
+    pub fn unifiable(&mut self, left: Ref, right: Ref) -> Result<bool, NoMemory>
+        requires left { left.at < length self.old.cells }
+        requires right { right.at < length self.old.cells }
+        ensures found { IfOk result (λ found. (names : List Name) → Names names self.old.cells →
+            found ≡ is_some (mgu (subst_of names self.old) (shows names self.old.cells left.at) (shows names self.old.cells right.at))) }
+        ensures unchanged { self.new ≡ self.old }
+        ensures store { IsStore self.new }
+    {
+        let alloc = *self.chains.pairs.allocator();
+        unifiable(&mut self.chains, alloc, left, right)
+    }
+
+    /// How many cells and variable numbers there are.
+    pub fn mark(&self) -> StoreMark
+        ensures cells { result.cells ≡ length self.now.cells }
+        ensures vars { result.vars ≡ self.now.vars }
+        ensures store { IsStore self.now }
+    {
+        StoreMark {
+            cells: self.chains.cells.len(),
+            vars: self.chains.bound.len() as u64,
+        }
+    }
+
+    /// Cuts cells and variable numbers to a mark. The bindings stay. Takes no memory.
+    pub fn back_to(&mut self, mark: StoreMark)
+        requires { CanGoBack self.old mark }
+        ensures value { self.new ≡ cut_to_mark self.old mark }
+        ensures keeps { Keeps self.new self.old }
+        ensures store { IsStore self.new }
+    {
+        self.chains.back_to(mark);
+    }
+}
+
+impl Binds for Store {
+    ghost bindings = { λ s. s.pairs };
+
+    fn bound(&self, number: u64) -> Option<Ref> {
+        self.chains.bound.get(number as usize).copied().flatten()
+    }
+}
