@@ -1,0 +1,130 @@
+-- What a run does, with every shelf and every sink.
+use Rattle.std.specs.Prelude.{◌≡◌, ℕ, List, map, string_bytes, Option, Some, None, MatchOption, IsSomeAnd, ◌⊎◌}
+use Rattle.std.specs.declared.alloc.Global.{Global}
+use Rattle.std.specs.declared.string.String.{String}
+use Rattle.tp_outside.specs.Count.{Rose}
+use Rattle.tp_outside.specs.Files.{Files, held_under}
+use Rattle.tp_outside.specs.Taken.{added, HasPrefix}
+use Rattle.tp_top.specs.declared.run.Status.{Status}
+use Rattle.tp_top.specs.declared.run.Status.TheVariants.{Found, No, Raised, Budget, Usage, Model, Goal, Read, Write, Memory}
+use Rattle.tp_top.specs.Expected.{Request, request, Answer, expected, usage, read_fault}
+
+-- the number of a status
+abbrev pub number_of : Status → ℕ
+number_of Found = 0
+number_of No = 1
+number_of Raised = 2
+number_of Budget = 3
+number_of Usage = 4
+number_of Model = 5
+number_of Goal = 6
+number_of Read = 7
+number_of Write = 8
+number_of Memory = 9
+
+abbrev pub words_of : List (String Global) → List (List ℕ)
+words_of = map (λ word. string_bytes word)
+
+-- What a run is about: what the shelf tells, the words, the counts of faults of reading and of writing before and after,
+-- and what the sink tells before and after.
+pub record Run : Type 0 where
+  pub held : Option Files
+  pub words : List (List ℕ)
+  pub reads_before : ℕ
+  pub reads_after : ℕ
+  pub writes_before : ℕ
+  pub writes_after : ℕ
+  pub taken_before : Option (List ℕ)
+  pub taken_after : Option (List ℕ)
+
+-- ---- what is expected
+
+abbrev pub OfUsage : Option Request → (Option Answer → Type 0) → Type 0
+OfUsage None P = P (Some usage)
+OfUsage (Some r) P = Unit {0}
+
+-- what holds of the expected answer, where it is known: the shelf tells, or the words are no request
+abbrev pub OfExpected : List (List ℕ) → Option Files → (Option Answer → Type 0) → Type 0
+OfExpected words None P = OfUsage (request words) P
+OfExpected words (Some files) P = P (expected words files)
+
+-- a status that is none of a read fault, a write fault and want of memory
+abbrev pub IsPlain : Status → Type 0
+IsPlain Read = ⊥
+IsPlain Write = ⊥
+IsPlain Memory = ⊥
+IsPlain _ = Unit {0}
+
+-- the count of faults rose or, where the shelf tells, the name isn't held
+abbrev pub CouldFail : Option Files → List ℕ → ℕ → ℕ → Type 0
+CouldFail None name before after = Rose before after
+CouldFail (Some files) name before after = MatchOption (held_under files name) (Unit {0}) (λ _. Rose before after)
+
+-- the words are a request whose model couldn't be read
+abbrev pub IsReadFault : Option Request → Option Files → ℕ → ℕ → Type 0
+IsReadFault None held before after = ⊥
+IsReadFault (Some r) held before after = CouldFail held r.model before after
+
+abbrev pub CouldNotRead : Run → Type 0
+CouldNotRead run = IsReadFault (request run.words) run.held run.reads_before run.reads_after
+
+-- ---- what is written
+
+-- a whole text was added
+abbrev pub Wrote : Run → List ℕ → Type 0
+Wrote run text = run.taken_after ≡ added run.taken_before text
+
+-- a prefix of an answer's text was added, and nothing where there is no answer
+abbrev pub WrotePart : Run → Option Answer → Type 0
+WrotePart run None = run.taken_after ≡ run.taken_before
+WrotePart run (Some answer) = HasPrefix run.taken_before run.taken_after answer.1
+
+-- a prefix of the expected text was added, or of the line of a model that couldn't be read
+abbrev pub IsCutShort : Run → Type 0
+IsCutShort run =
+    OfExpected run.words run.held (WrotePart run)
+    ⊎ (CouldNotRead run × HasPrefix run.taken_before run.taken_after read_fault)
+
+-- the expected answer, whole
+abbrev pub GaveAnswer : Run → Status → Answer → Type 0
+GaveAnswer run status answer = (status ≡ answer.0) × Wrote run answer.1
+
+-- there is an expected answer, and it was given, whole
+abbrev pub GaveExpected : Run → Status → Option Answer → Type 0
+GaveExpected run status answer = IsSomeAnd answer (GaveAnswer run status)
+
+-- the line of a model that couldn't be read
+abbrev pub GaveReadFault : Run → Status → Type 0
+GaveReadFault run status = (status ≡ Read) × Wrote run read_fault
+
+-- what is given where no fault comes and memory suffices
+abbrev pub GaveAll : Run → Status → Option Answer → Type 0
+GaveAll run status None = GaveReadFault run status
+GaveAll run status (Some answer) = GaveAnswer run status answer
+
+-- ---- the whole clause
+
+-- A run ends with a status:
+pub record Ended (run : Run) (status : Status) : Type 0 where
+  -- Where it is no read fault, write fault or want of memory, an answer is expected, and it was given, whole.
+  pub plain : IsPlain status → OfExpected run.words run.held (GaveExpected run status)
+  -- Where it is a read fault, the words are a request, the count of faults of reading rose or the model isn't held, and
+  -- the line of a read fault was written.
+  pub read : status ≡ Read → CouldNotRead run × Wrote run read_fault
+  -- Where it is a write fault, the count of faults of writing rose, and a prefix was written.
+  pub write : status ≡ Write → Rose run.writes_before run.writes_after × IsCutShort run
+  -- Where memory was refused, a prefix was written.
+  pub memory : status ≡ Memory → IsCutShort run
+  -- Where no count of faults rose, the expected answer was given, whole, or the line of a read fault where none is
+  -- expected, or memory was refused.
+  pub complete :
+      ¬ Rose run.reads_before run.reads_after → ¬ Rose run.writes_before run.writes_after →
+      OfExpected run.words run.held (λ answer. GaveAll run status answer ⊎ (status ≡ Memory))
+
+-- ---- before anything is written
+
+-- an answer that is expected, or that of a model that couldn't be read
+abbrev pub Prepared : Answer → List (List ℕ) → Option Files → ℕ → ℕ → Type 0
+Prepared answer words held before after =
+    (IsPlain answer.0 × OfExpected words held (λ e. e ≡ Some answer))
+    ⊎ (IsReadFault (request words) held before after × (answer ≡ (Read, read_fault)))

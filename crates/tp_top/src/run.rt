@@ -1,0 +1,190 @@
+//! The whole program as one call.
+
+#[cfg(test)]
+mod tests;
+
+ghost use Rattle.std.specs.Prelude.{◌≡◌, ◌≤◌, Some, length, IfOk};
+ghost use Rattle.std.specs.Option.{option_map};
+ghost use Rattle.tp_top.specs.Ended.{number_of, words_of, Ended, Prepared};
+ghost use Rattle.tp_top.specs.Engine.{QueryFits};
+ghost use Rattle.tp_top.specs.Expected.{for_query, for_text, found, is_plain as is_plain_of, request};
+ghost use Rattle.tp_top.specs.Form as form;
+ghost use Rattle.tp_top.specs.Replies.{view_of};
+ghost use Rattle.tp_top.specs.Report.{report};
+ghost use Rattle.tp_top.specs.Sound.{ProgramFits, keys_in};
+ghost use Rattle.tp_top.specs.Views.{query_of, rules_of};
+
+use crate::engine::solve;
+use crate::form::{Program, Query, Stop, read_model, read_query};
+use crate::report::{Reply, report_of};
+use std::alloc::Global;
+use tp_outside::{LONGEST_TEXT, ReadError, Shelf, Sink, read_all, write_all};
+use tp_terms::NoMemory;
+
+/// The most clauses of a model.
+const MOST_RULES: usize = 1_000_000;
+
+/// The most steps of a search.
+const MOST_STEPS: u64 = 1_000_000;
+
+/// How a run ends. The number of each, from 0, is the exit status of the program.
+#[derive(Clone, Copy, Debug, PartialEq, Eq)]
+pub enum Status {
+    /// An answer was found.
+    Found,
+    /// The search ended without an answer.
+    No,
+    /// The search ended with an error term.
+    Raised,
+    /// The steps were used up.
+    Budget,
+    /// The words are no request.
+    Usage,
+    /// The model was refused.
+    Model,
+    /// The goal was refused.
+    Goal,
+    /// The model couldn't be read.
+    Read,
+    /// Not all could be written.
+    Write,
+    /// Memory was refused.
+    Memory,
+}
+
+impl Status {
+    /// The number of the status, from 0 to 9.
+    pub fn number(self) -> u8
+        ensures { result ≡ number_of self }
+    {
+        self as u8
+    }
+}
+
+/// Whether a word doesn't begin with a dash.
+fn is_plain(word: &str) -> bool
+    ensures { result ≡ is_plain_of word.now }
+{
+    match word.as_bytes().first() {
+        None => true,
+        Some(byte) => *byte != b'-',
+    }
+}
+
+/// The model's name and the goal, where the words are a request.
+fn request_of(words: &[String]) -> Option<(&str, &str)>
+    ensures { option_map (λ r. record { model = r.0.now; goal = r.1.now }) result ≡ request (words_of words.now) }
+{
+    let [model, goal] = words else {
+        return None;
+    };
+    let model = model.as_str();
+    let goal = goal.as_str();
+    if is_plain(model) && is_plain(goal) {
+        Some((model, goal))
+    } else {
+        None
+    }
+}
+
+/// The answer to a goal that was read.
+fn answer_query(alloc: Global, program: &Program<'_>, query: &Query<'_>) -> Result<Reply, NoMemory>
+    requires program { ProgramFits program.now }
+    requires query { QueryFits (keys_in program.now) query.now }
+    ensures { IfOk result (λ reply. report (query_of query.now).seen (found (rules_of program.now.rules.items) (query_of query.now)) ≡ Some (view_of reply)) }
+{
+    let solved = solve(alloc, program, query, MOST_STEPS)?;
+    report_of(alloc, &query.seen, &solved)
+}
+
+/// The answer to the text of a goal.
+fn answer_goal(alloc: Global, program: &Program<'_>, goal: &str) -> Result<Reply, NoMemory>
+    requires { ProgramFits program.now }
+    ensures { let rules = rules_of program.now.rules.items in
+        IfOk result (λ reply. for_query rules (form.query_of rules goal.now) ≡ Some (view_of reply)) }
+{
+    match read_query(alloc, program, goal.as_bytes()) {
+        Ok(query) => answer_query(alloc, program, &query),
+        Err(Stop::OutOfForm) => Reply::fixed(
+            alloc,
+            Status::Goal,
+            b"goal refused: byte 0 cause Syntax\n",
+        ),
+        Err(Stop::NoMemory) => Err(NoMemory),
+    }
+}
+
+/// The answer to the text of a model and of a goal.
+fn answer(alloc: Global, text: &[u8], goal: &str) -> Result<Reply, NoMemory>
+    requires { length text.now ≤ LONGEST_TEXT }
+    ensures { IfOk result (λ reply. for_text text.now goal.now ≡ Some (view_of reply)) }
+{
+    match read_model(alloc, text, MOST_RULES) {
+        Ok(program) => answer_goal(alloc, &program, goal),
+        Err(Stop::OutOfForm) => Reply::fixed(
+            alloc,
+            Status::Model,
+            b"model refused: clause 0 byte 0 cause Syntax\n",
+        ),
+        Err(Stop::NoMemory) => Err(NoMemory),
+    }
+}
+
+/// The answer to the words, before any of it is written.
+fn prepare<S: Shelf>(alloc: Global, words: &[String], shelf: &mut S) -> Result<Reply, NoMemory>
+    ensures held_stays { S.held shelf.new ≡ S.held shelf.old }
+    ensures never_falls { S.faults shelf.old ≤ S.faults shelf.new }
+    ensures reply { IfOk result (λ reply.
+        Prepared (view_of reply) (words_of words.now) (S.held shelf.old) (S.faults shelf.old) (S.faults shelf.new)) }
+{
+    let Some((model, goal)) = request_of(words) else {
+        return Reply::fixed(
+            alloc,
+            Status::Usage,
+            b"usage: tprolog MODEL GOAL [options]\n",
+        );
+    };
+    match read_all(alloc, shelf, model) {
+        Ok(text) => answer(alloc, &text, goal),
+        Err(ReadError::Fault) => Reply::fixed(alloc, Status::Read, b"read fault\n"),
+        Err(ReadError::TooLong) => Reply::fixed(
+            alloc,
+            Status::Model,
+            b"model refused: more than 16777216 bytes\n",
+        ),
+        Err(ReadError::NoMemory) => Err(NoMemory),
+    }
+}
+
+/// Does all that the program does with the words behind its name: a model's name and a goal.
+///
+/// The model is read from the shelf, the goal is searched for one answer with at most 1,000,000 steps, and what was
+/// found, or why there was nothing to find, is written to the sink. Nothing is left for the caller to print.
+pub fn run<S: Shelf, W: Sink>(
+    alloc: Global,
+    words: &[String],
+    shelf: &mut S,
+    sink: &mut W,
+) -> Status
+    ensures held_stays { S.held shelf.new ≡ S.held shelf.old }
+    ensures reads_never_fall { S.faults shelf.old ≤ S.faults shelf.new }
+    ensures writes_never_fall { W.faults sink.old ≤ W.faults sink.new }
+    ensures ended { Ended (record {
+      held = S.held shelf.old;
+      words = words_of words.now;
+      reads_before = S.faults shelf.old;
+      reads_after = S.faults shelf.new;
+      writes_before = W.faults sink.old;
+      writes_after = W.faults sink.new;
+      taken_before = W.taken sink.old;
+      taken_after = W.taken sink.new;
+    }) result }
+{
+    let Ok(reply) = prepare(alloc, words, shelf) else {
+        return Status::Memory;
+    };
+    match write_all(sink, &reply.text) {
+        Ok(()) => reply.status,
+        Err(_) => Status::Write,
+    }
+}

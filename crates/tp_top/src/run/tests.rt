@@ -1,0 +1,209 @@
+//! Runs with ample memory: what is printed, and how they end.
+ghost use Rattle.std.specs.Prelude.{◌<◌};
+
+use crate::run::{Status, run};
+use std::alloc::{AllocError, Global};
+use std::test::Fail;
+use tp_outside::{MemShelf, MemSink};
+
+/// What a run over memory left.
+#[derive(Drop)]
+struct Left {
+    status: Status,
+    taken: Vec<u8>,
+    read_faults: u64,
+    write_faults: u64,
+}
+
+/// How a shelf or a sink cuts what it gives or takes, and the calls that fail.
+#[derive(Clone, Copy)]
+struct Cuts {
+    piece: usize,
+    fails: &'static [u64],
+}
+
+const SMOOTH: Cuts = Cuts {
+    piece: 65_536,
+    fails: &[],
+};
+
+const SECOND: Cuts = Cuts {
+    piece: 1,
+    fails: &[2],
+};
+
+const THIRD: Cuts = Cuts {
+    piece: 1,
+    fails: &[3],
+};
+
+const FIFTH: Cuts = Cuts {
+    piece: 1,
+    fails: &[5],
+};
+
+/// A run with these words, over a shelf that holds a model under `m`.
+fn run_over(
+    alloc: Global,
+    words: &[&str],
+    model: &[u8],
+    reading: Cuts,
+    writing: Cuts,
+) -> Result<Left, Fail> {
+    if reading.piece == 0 || writing.piece == 0 {
+        return Err(Fail::new("a piece has a byte"));
+    }
+    let mut given = Vec::new(alloc);
+    for word in words {
+        given.push(String::from_str(alloc, word)?)?;
+    }
+    let name = String::from_str(alloc, "m")?;
+    let files = vec![in alloc; (name, Vec::from_slice(alloc, model)?)]?;
+    let mut shelf = MemShelf::new(files, reading.piece, Vec::from_slice(alloc, reading.fails)?);
+    let fails = Vec::from_slice(alloc, writing.fails)?;
+    let Ok(mut sink) = MemSink::new(alloc, 1_000_000, writing.piece, fails) else {
+        return Err(Fail::from(AllocError));
+    };
+    let status = run(alloc, &given, &mut shelf, &mut sink);
+    Ok(Left {
+        status,
+        taken: Vec::from_slice(alloc, sink.taken())?,
+        read_faults: shelf.faults(),
+        write_faults: sink.faults(),
+    })
+}
+
+const P: &[u8] = b"p(1). p(2).";
+
+const USAGE: &str = "usage: tprolog MODEL GOAL [options]\n";
+
+const MODEL_REFUSED: &str = "model refused: clause 0 byte 0 cause Syntax\n";
+
+const GOAL_REFUSED: &str = "goal refused: byte 0 cause Syntax\n";
+
+const READ_FAULT: &str = "read fault\n";
+
+#[test]
+fn answers_searches(rt: HostRuntime) -> Result<(), Fail> {
+    for (model, goal, status, text) in [
+        (
+            P,
+            "p(X)",
+            Status::Found,
+            "answer 1\nX = 1\n0 main: start\n0 main: end\nend 0 steps 4\nstopped after 4 steps\n",
+        ),
+        (
+            b"".as_slice(),
+            "true",
+            Status::Found,
+            "answer 1\n0 main: start\n0 main: end\nend 0 steps 4\nstopped after 4 steps\n",
+        ),
+        (
+            P,
+            "p(3)",
+            Status::No,
+            "no after 2 steps: 1 failed 0 deadlock 0 late\n",
+        ),
+        (
+            b"p :- p.",
+            "p",
+            Status::Budget,
+            "budget after 1000000 steps\n",
+        ),
+    ] {
+        let left = run_over(rt.alloc(), &["m", goal], model, SMOOTH, SMOOTH)?;
+        assert!(rt; left.status != Status::Memory, "for {goal}");
+        assert_eq!(rt; left.status, status, "for {goal}");
+        assert_eq!(rt; left.taken.as_slice(), text.as_bytes(), "for {goal}");
+    }
+    Ok(())
+}
+
+#[test]
+fn refuses_words(rt: HostRuntime) -> Result<(), Fail> {
+    for words in [
+        [].as_slice(),
+        &["m"],
+        &["m", "true", "true"],
+        &["-m", "true"],
+        &["m", "-1"],
+        &["--", "m"],
+        &["m", "true", "--steps"],
+    ] {
+        let left = run_over(rt.alloc(), words, b"", SMOOTH, SMOOTH)?;
+        assert_eq!(rt; left.status, Status::Usage, "with {words:?}");
+        assert_eq!(rt; left.taken.as_slice(), USAGE.as_bytes(), "with {words:?}");
+    }
+    Ok(())
+}
+
+#[test]
+fn refuses_texts_out_of_form(rt: HostRuntime) -> Result<(), Fail> {
+    for (model, goal, status, text) in [
+        (P, "q", Status::Goal, GOAL_REFUSED),
+        (P, "", Status::Goal, GOAL_REFUSED),
+        (P, "p(1", Status::Goal, GOAL_REFUSED),
+        (P, "p(1). p(2).", Status::Goal, GOAL_REFUSED),
+        (P, "p(-1)", Status::Goal, GOAL_REFUSED),
+        (b"p(1)", "p(1)", Status::Model, MODEL_REFUSED),
+        (b"p(1).q.", "q", Status::Model, MODEL_REFUSED),
+        (b"p :- q.", "p", Status::Model, MODEL_REFUSED),
+        (b"hold(1).", "true", Status::Model, MODEL_REFUSED),
+        (b"p(f(1)).", "true", Status::Model, MODEL_REFUSED),
+        // The model comes before the goal.
+        (b"p(", "q(", Status::Model, MODEL_REFUSED),
+    ] {
+        let left = run_over(rt.alloc(), &["m", goal], model, SMOOTH, SMOOTH)?;
+        assert_eq!(rt; left.status, status, "for {goal}");
+        assert_eq!(rt; left.taken.as_slice(), text.as_bytes(), "for {goal}");
+    }
+    Ok(())
+}
+
+#[test]
+fn refuses_a_longer_model(rt: HostRuntime) -> Result<(), Fail> {
+    let alloc = rt.alloc();
+    let spaces = vec![in alloc; b' '; 16_777_217]?;
+    let left = run_over(alloc, &["m", "true"], spaces.as_slice(), SMOOTH, SMOOTH)?;
+    assert_eq!(rt; left.status, Status::Model);
+    assert_eq!(rt;
+        left.taken.as_slice(),
+        b"model refused: more than 16777216 bytes\n".as_slice()
+    );
+    Ok(())
+}
+
+#[test]
+fn ends_with_a_fault(rt: HostRuntime) -> Result<(), Fail> {
+    for (name, reading, writing, status, text, read_faults, write_faults) in [
+        ("m", THIRD, SMOOTH, Status::Read, READ_FAULT, 1, 0),
+        ("m", SMOOTH, SECOND, Status::Write, "a", 0, 1),
+        ("x", SMOOTH, SMOOTH, Status::Read, READ_FAULT, 0, 0),
+        ("x", SMOOTH, FIFTH, Status::Write, "read", 0, 1),
+    ] {
+        let left = run_over(rt.alloc(), &[name, "p(X)"], P, reading, writing)?;
+        assert_eq!(rt; left.status, status, "over {name}");
+        assert_eq!(rt; left.taken.as_slice(), text.as_bytes(), "over {name}");
+        assert_eq!(rt; left.read_faults, read_faults, "over {name}");
+        assert_eq!(rt; left.write_faults, write_faults, "over {name}");
+    }
+    Ok(())
+}
+
+#[test]
+fn numbers_the_statuses(rt: HostRuntime) {
+    for (status, number) in [
+        (Status::Found, 0),
+        (Status::No, 1),
+        (Status::Raised, 2),
+        (Status::Budget, 3),
+        (Status::Usage, 4),
+        (Status::Model, 5),
+        (Status::Goal, 6),
+        (Status::Read, 7),
+        (Status::Write, 8),
+        (Status::Memory, 9),
+    ] {
+        assert_eq!(rt; status.number(), number);
+    }
+}
