@@ -422,13 +422,13 @@ query_goals rs text q read = go (query_at text) (query_fits text) read
 
 -- ---- uses
 
--- a name that begins with a lower-case letter is no comma
-pub named_no_comma : (name : Name) → first_is is_lower name ≡ true → names_eq name (codes ",") ≡ false
-named_no_comma name low = go (names_eq name (codes ",")) refl
+-- a word is no name that begins with another character
+pub no_word : (name text : Name) → first_is is_lower name ≡ true → first_is is_lower text ≡ false → names_eq name text ≡ false
+no_word name text low other = go (names_eq name text) refl
   where
-    go : (b : Bool) → names_eq name (codes ",") ≡ b → names_eq name (codes ",") ≡ false
-    go true same = absurd (true≢false (sym low ∙ ap (first_is is_lower) ((bytes_eq-Decides name (codes ",")).0 same)))
-    go false differ = differ
+    go : (b : Bool) → names_eq name text ≡ b → b ≡ false
+    go true same = absurd (true≢false (sym low ∙ ap (first_is is_lower) ((bytes_eq-Decides name text).0 same) ∙ other))
+    go false differ = refl
 
 -- The clauses at the places of a key are those with this key, in text order.
 at_places : (before : List Rule) (rs : List Rule) (k : Key) (d : Rule) → map (λ n. get_or (before ++ rs) n d) (places_from (length before) k (keys_of rs)) ≡ filter (λ r. same_key k (key_of r.head)) rs

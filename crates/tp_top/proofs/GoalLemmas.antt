@@ -25,7 +25,7 @@ use Rattle.tp_top.specs.Views.{goal_of, goals_of, rule_of}
 use Rattle.tp_top.specs.Bound.{Bound, shifted}
 use Rattle.tp_top.specs.Program.{goal_term, conjunction, clause_of, base_of}
 use Rattle.tp_top.specs.Worlds.{joined, world_of, turn_of, called, seen_call, item_under, items_under, world_by, clauses_of, body_under, IsTrueGoal, IsFailGoal, IsUserGoal}
-use Rattle.tp_top.proofs.FormLemmas.{named_no_comma}
+use Rattle.tp_top.proofs.FormLemmas.{no_word}
 use Rattle.tp_top.proofs.WorldLemmas.{items-push}
 
 -- a goal's term under a map, its variables numbered on
@@ -92,7 +92,7 @@ module _ (rules : List form.Rule) (b : Bound) (stamp n barrier : ℕ) (rest : Li
   unfolding step
   user_step g c cs user word e =
       let ts : Terms = all_replaced (value_at b.subst) (all_replaced (λ v. Var (v + n)) g.args) in
-      let control : control_of g.name ts ≡ None = user_control g.name ts (named_no_comma g.name word) (λ none. (no_key g (codes "true") user.not_true (empty_seen b.subst n g.args none), no_key g (codes "fail") user.not_fail (empty_seen b.subst n g.args none))) in
+      let control : control_of g.name ts ≡ None = user_control g.name ts (no_word g.name (codes ",") word refl) (λ none. (no_key g (codes "true") user.not_true (empty_seen b.subst n g.args none), no_key g (codes "fail") user.not_fail (empty_seen b.subst n g.args none))) in
       let found : predicate (base_of rules) g.name (count_of ts) ≡ c ∷ cs = ap (predicate (base_of rules) g.name) (count-seen b.subst n g.args) ∙ e in
       let turn : Turn = record { world = user_world (apply b.subst (shifted n (goal_term g))); process = 0; rest = rest } in
       ap (λ t. raised_at (user_world (apply b.subst (shifted n (goal_term g)))) 0 (goal_step (base_of rules) turn barrier t)) (seen_goal b.subst n g)

@@ -1,6 +1,5 @@
 -- The start of a search.
-use Rattle.std.proofs.Common.{◌≡◌, ℕ, suc, ◌+◌, ◌<◌, Bool, true, false, ◌||◌, true≢false, List, [], ◌∷◌, All, length, Some, Bor, refl, ap, sym, subst, ◌∙◌, arith, add-zero, codes}
-use Rattle.std.proofs.lemmas.Slice.Eq.{bytes_eq-Decides}
+use Rattle.std.proofs.Common.{◌≡◌, ℕ, suc, ◌+◌, ◌<◌, true, false, ◌||◌, List, [], ◌∷◌, All, length, Some, Bor, refl, ap, sym, subst, ◌∙◌, arith, add-zero, codes}
 use Rattle.tp_terms.specs.Term.{Name, Term, Terms, Var, NoMore, More, names_eq, term_of}
 use Rattle.tp_meaning.specs.Subst.{IsSubst, apply}
 use Rattle.tp_meaning.specs.World as world
@@ -32,15 +31,8 @@ use Rattle.tp_top.specs.Program.{goal_term, conjunction, base_of}
 use Rattle.tp_top.specs.Sound.{GoalFits, ItemFits, AllFit, ProgramFits, keys_in}
 use Rattle.tp_top.specs.Worlds.{joined, world_by, world_of, items_under}
 use Rattle.tp_top.proofs.BoundLemmas.{chained_subst}
+use Rattle.tp_top.proofs.FormLemmas.{no_word}
 use Rattle.tp_top.specs.Engine.{IsEngine, IsStarted, QueryFits, ChoiceFits, choices_of, tally, found_from, base_in, state_of}
-
--- a word is no name that begins with another character
-no_word : (name text : Name) → first_is is_lower name ≡ true → first_is is_lower text ≡ false → names_eq name text ≡ false
-no_word name text low other = go (names_eq name text) refl
-  where
-    go : (b : Bool) → names_eq name text ≡ b → b ≡ false
-    go true same = absurd (true≢false (sym low ∙ ap (first_is is_lower) ((bytes_eq-Decides name text).0 same) ∙ other))
-    go false differ = refl
 
 joins_none : (name : Name) → first_is is_lower name ≡ true → joins_goals name ≡ false
 joins_none name low =

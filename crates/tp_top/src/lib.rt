@@ -1,11 +1,11 @@
 //! The whole program as one call.
 #![tactic(auto)]
 
-pub mod bindings;
-pub mod calls;
-pub mod engine;
-pub mod form;
-pub mod plain;
-pub mod report;
+mod bindings;
+mod calls;
+mod engine;
+mod form;
+mod plain;
+mod report;
 pub mod run;
-pub mod table;
+mod table;
