@@ -1,7 +1,7 @@
 //! The history of a world: its events, in the order in which they came.
 #![tactic(auto)]
 
-ghost use Rattle.std.specs.Prelude.{◌≡◌, ◌++◌, ◌∷◌, [], length, take, nat_eq, slice_get, OnErr, OnOk};
+ghost use Rattle.std.specs.Prelude.{◌≡◌, ◌++◌, ◌∷◌, [], length, take, nat_eq, slice_get, IfOk, OnErr, OnOk};
 
 #[cfg(test)]
 mod tests;
@@ -70,5 +70,17 @@ impl Events {
         ensures { self.new ≡ take len self.old }
     {
         self.events.truncate(len);
+    }
+
+    /// The same events again.
+    ///
+    /// Answers `NoMemory` where the memory for them isn't had.
+    pub fn copy_all(&self) -> Result<Events, NoMemory>
+        ensures { IfOk result (λ copy. copy ≡ self.now) }
+    {
+        let alloc = *self.events.allocator();
+        Ok(Events {
+            events: Vec::from_slice(alloc, self.events.as_slice())?,
+        })
     }
 }

@@ -33,3 +33,13 @@ fn keeps_events_in_order(rt: HostRuntime) -> Result<(), NoMemory> {
     assert!(rt; events.is_empty());
     Ok(())
 }
+
+#[test]
+fn copies_all_events(rt: HostRuntime) -> Result<(), NoMemory> {
+    let mut events = Events::new(rt.alloc());
+    events.push(event(4, EventKind::Start))?;
+    let copy = events.copy_all()?;
+    assert_eq!(rt; copy.len(), 1);
+    assert_eq!(rt; copy.get(0), Some(event(4, EventKind::Start)));
+    Ok(())
+}

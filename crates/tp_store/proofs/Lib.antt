@@ -8,3 +8,4 @@ pub mod UnifierLemmas
 pub mod CopyLemmas
 pub mod TaskLemmas
 pub mod StoreLemmas
+pub mod BodyLemmas

@@ -2,3 +2,4 @@ pub mod Contents
 pub mod Chain
 pub mod Work
 pub mod Copy
+pub mod Bodies

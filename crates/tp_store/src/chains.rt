@@ -29,6 +29,17 @@ pub struct End {
     pub cell: Cell,
 }
 
+/// The same cells again.
+fn copy_cells(alloc: Global, cells: &Cells) -> Result<Cells, NoMemory>
+    ensures { IfOk result (λ copy. copy.items ≡ cells.now.items) }
+{
+    let mut copy = Cells::new(alloc);
+    for at in 0..cells.len() {
+        copy.push(cells.get(Ref { at }))?;
+    }
+    Ok(copy)
+}
+
 impl Chains {
     /// No terms.
     pub fn new(alloc: Global) -> Self
@@ -153,5 +164,18 @@ impl Chains {
     {
         self.cells.cut_to(mark.cells);
         self.bound.truncate(mark.vars as usize);
+    }
+
+    /// The same terms and bindings again.
+    pub fn copy_all(&self, alloc: Global) -> Result<Chains, NoMemory>
+        requires chains { IsChains self.now }
+        ensures chains { IfOk result IsChains }
+        ensures value { IfOk result (λ copy. contents_of copy ≡ contents_of self.now) }
+    {
+        Ok(Chains {
+            cells: copy_cells(alloc, &self.cells)?,
+            bound: Vec::from_slice(alloc, self.bound.as_slice())?,
+            pairs: Vec::from_slice(alloc, self.pairs.as_slice())?,
+        })
     }
 }

@@ -1,6 +1,7 @@
 //! The store: terms in cells, and what their variables are bound to.
 #![tactic(auto)]
 
+mod body;
 mod chains;
 mod copy;
 mod pairs;

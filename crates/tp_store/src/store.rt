@@ -1,19 +1,23 @@
 //! The store.
 
-ghost use Rattle.std.specs.Prelude.{◌≡◌, ◌≢◌, ℕ, ◌<◌, List, [], length, true, Ok, Some, None, is_some, OnOk, OnErr, IfOk, if◌then◌else◌};
+ghost use Rattle.std.specs.Prelude.{◌≡◌, ◌≢◌, ℕ, ◌<◌, List, [], length, true, Ok, Some, None, is_some, option_map, OnOk, OnErr, IfOk, IfSome, IfNone, if◌then◌else◌};
 ghost use Rattle.tp_terms.specs.Term.{Name};
-ghost use Rattle.tp_terms.specs.Shown.{AreNamed, StandsBefore, shows};
+ghost use Rattle.tp_terms.specs.Names.{IsTable};
+ghost use Rattle.tp_terms.specs.Shown.{AreNamed, IsNamed, StandsBefore, shows};
 ghost use Rattle.tp_terms.specs.Binds.{Fits};
+ghost use Rattle.tp_meaning.specs.Body.{body};
 ghost use Rattle.tp_meaning.specs.Clauses.{renamed};
 ghost use Rattle.tp_meaning.specs.Subst.{mgu};
 ghost use Rattle.tp_store.specs.Contents.{AddsCells, AddsPairs, IsStore, Names, IsNumbered, IsUnbound, CanGoBack, Keeps, cut_to_mark, with_cell, with_vars, seen, seen_cell, subst_of};
 ghost use Rattle.tp_store.specs.Copy.{IsClaimed};
 
+use crate::body::body_of;
 use crate::chains::Chains;
 use crate::copy::instance;
 use crate::solve::{unifiable, unify};
 use std::alloc::Global;
 use std::marker::Model;
+use tp_terms::symbols::CALL;
 use tp_terms::{Binds, Cell, Cells, NoMemory, Ref, StoreMark};
 
 /// Terms in cells, and what their variables are bound to. Contracts see its cells, its bindings and
@@ -123,6 +127,7 @@ impl Store {
         ensures unbound { IsUnbound self.now.pairs result }
         ensures before { StandsBefore (length self.now.cells) result }
         ensures numbered { IsNumbered self.now.vars result }
+        ensures named { (n : ℕ) → AreNamed n self.now.cells → IsNamed n result }
     {
         self.chains.end(at).cell
     }
@@ -165,6 +170,34 @@ impl Store {
         unifiable(&mut self.chains, alloc, left, right)
     }
 
+    /// A place for the body of a goal, which is seen under the bindings: a variable is called. In `,`,
+    /// `;` and `->` with two goals both are bodies in their turn, and every other goal is its own body
+    /// (ISO/IEC 13211-1, clause 7.6.2). None exactly where it has no body: an integer stands where a
+    /// goal should. Where nothing is converted, the place is the goal's own, and no cell is added.
+    ///
+    /// Answers `NoMemory` where the memory for it isn't had. The store is as before then, and where
+    /// there is no body.
+    pub fn body(&mut self, goal: Ref) -> Result<Option<Ref>, NoMemory>
+        requires { goal.at < length self.old.cells }
+
+        // Names are compared by their places, so this holds under each table of names that has every
+        // atom of the cells.
+        ensures body { IfOk result (λ found. (names : List Name) → IsTable names → AreNamed (length names) self.old.cells →
+            option_map (λ at. seen names self.new at.at) found ≡ body (seen names self.old goal.at)) }
+        ensures place { IfOk result (λ found. IfSome found (λ at. at.at < length self.new.cells)) }
+        ensures adds { AddsCells self.old self.new }
+        ensures keeps { Keeps self.old self.new }
+        ensures none { IfOk result (λ found. IfNone found (self.new ≡ self.old)) }
+        ensures err { OnErr result (self.new ≡ self.old) }
+        ensures store { IsStore self.new }
+
+        // A table of names that has `call` and every atom of the cells has every atom of the new ones.
+        ensures named { OnOk result ((n : ℕ) → CALL.at < n → AreNamed n self.old.cells → AreNamed n self.new.cells) }
+    {
+        let alloc = *self.chains.pairs.allocator();
+        body_of(&mut self.chains, alloc, goal)
+    }
+
     /// How many cells and variable numbers there are.
     pub fn mark(&self) -> StoreMark
         ensures cells { result.cells ≡ length self.now.cells }
@@ -185,6 +218,18 @@ impl Store {
         ensures store { IsStore self.new }
     {
         self.chains.back_to(mark);
+    }
+
+    /// The same terms and bindings again.
+    ///
+    /// Answers `NoMemory` where the memory for them isn't had.
+    pub fn copy_all(&self) -> Result<Store, NoMemory>
+        ensures value { IfOk result (λ copy. copy ≡ self.now) }
+        ensures store { IsStore self.now }
+    {
+        let alloc = *self.chains.pairs.allocator();
+        let chains = self.chains.copy_all(alloc)?;
+        Ok(Store { chains })
     }
 }
 
