@@ -1,0 +1,14 @@
+use Rattle.std.proofs.Common.{sym, ap, chars, ◌∙◌}
+use Rattle.tp_parse.proofs.StepLemmas.{ready-more, enough-codes, list-made}
+use Rattle.tp_parse.proofs.leaves.push_list.Goals as goal
+
+pub link-requires-clause-ready : goal.link-requires-clause-ready
+link-requires-clause-ready c = ready-more c.args.source.now.text.now c.push_codes.new.steps.items c.push.new.self.items _ c.in_ok-push.ensures.items c.in_ok-push_codes.ensures.ready tt
+
+pub link-requires-clause-enough : goal.link-requires-clause-enough
+link-requires-clause-enough c =
+    enough-codes c.args.source.now.text.now c.push_codes.new.steps.items c.push.new.self.items c.deref.result.now _ _ c.in_ok-push_codes.ensures.trees c.in_ok-push.ensures.items (c.len.ensures ∙ sym c.deref.ensures.len)
+
+pub returns-clause-trees : goal.returns-clause-trees
+returns-clause-trees c =
+    list-made c.args.source.now.text.now c.push_codes.new.steps.items c.push.new.self.items c.deref.result.now _ _ _ _ c.in_ok-push_codes.ensures.trees c.in_ok-push.ensures.items (c.len.ensures ∙ sym c.deref.ensures.len) (c.deref.ensures.value ∙ c.in_ok-name.ensures ∙ ap chars c.as_str.ensures.value ∙ c.in_ok-text.ensures) c.in_ok-link.ensures.trees

@@ -1,0 +1,153 @@
+//! Parts of terms that have no terms in them, and the links of lists.
+
+ghost use Rattle.std.specs.Prelude.{◌≡◌, ◌+◌, ◌-◌, ◌<◌, ◌≤◌, ◌^◌, ◌∷◌, ◌++◌, nat_lt, ℕ, List, [], map, Some, chars, string_bytes, length, IfOk, IfErr, IsTrue, OnOk, negsuc, pos};
+ghost use Rattle.tp_lex.specs.Form.{has_name};
+ghost use Rattle.tp_lex.specs.Next.{IsTokenOf, token_name, token_value};
+ghost use Rattle.tp_parse.specs.Ahead.{is_minus};
+ghost use Rattle.tp_parse.specs.Gives.{GivesTerm, IsGoing, simple};
+ghost use Rattle.tp_parse.specs.Ops.{table_of};
+ghost use Rattle.tp_parse.specs.Steps.{AreReady, linked, onto_codes, trees_of};
+ghost use Rattle.tp_parse.specs.Tree.{Integer, Tree, integers, minus};
+ghost use Rattle.tp_parse.specs.Words.{after_word, ahead, first_word, lexed_of};
+
+use crate::cursor::Cursor;
+use crate::fault::ReadCause;
+use crate::steps::{Label, Step};
+use crate::stop::Stop;
+use crate::words::{Source, Word, plain_name};
+use std::alloc::{AllocError, Global};
+use tp_lex::{Token, TokenKind, integer_value, token_text};
+
+/// The least integer above those of terms.
+const INTEGERS_END: u64 = 1 << 63;
+
+/// Whether a word is the name `-`, without quotes.
+pub fn is_minus(source: &Source<'_>, word: Word) -> bool
+    requires { IsTokenOf source.now.text.now word.token }
+    ensures { result ≡ is_minus (lexed_of source.now.text.now word) }
+{
+    match word.token.kind {
+        TokenKind::Name => plain_name(source.text, &word.token) == "-",
+        _ => false,
+    }
+}
+
+/// The negative of a value.
+pub fn negative(value: u64) -> i64
+    requires { value ≤ 9223372036854775808 }
+    ensures { result ≡ minus value }
+{
+    if value == INTEGERS_END {
+        i64::MIN
+    } else {
+        -(value as i64)
+    }
+}
+
+/// Makes the last term the tail of a list of so many terms before it.
+pub fn link(steps: &mut Vec<Step>, count: usize, source: &Source<'_>) -> Result<(), Stop>
+    requires ready { AreReady source.now.text.now [] steps.old.items }
+    requires enough { count < length (trees_of source.now.text.now steps.old.items) }
+    ensures ready { AreReady source.now.text.now [] steps.new.items }
+    ensures trees { OnOk result (trees_of source.now.text.now steps.new.items ≡ linked count (trees_of source.now.text.now steps.old.items)) }
+    ensures memory { IfErr result (λ stop. stop ≡ Stop.NoMemory) }
+{
+    'links: for _ in 0..count {
+        steps.push(Step::Compound(Label::ListCell, 2))?;
+    }
+    Ok(())
+}
+
+/// Adds characters' codes as integers.
+fn push_codes(steps: &mut Vec<Step>, name: &[char], source: &Source<'_>) -> Result<(), Stop>
+    requires ready { AreReady source.now.text.now [] steps.old.items }
+    ensures ready { AreReady source.now.text.now [] steps.new.items }
+    ensures trees { OnOk result (trees_of source.now.text.now steps.new.items ≡ onto_codes name.now (trees_of source.now.text.now steps.old.items)) }
+    ensures memory { IfErr result (λ stop. stop ≡ Stop.NoMemory) }
+{
+    for character in name {
+        steps.push(Step::Integer(code(*character)))?;
+    }
+    Ok(())
+}
+
+/// The characters of a text.
+fn characters(alloc: Global, text: &str) -> Result<Vec<char>, AllocError>
+    ensures { IfOk result (λ name. name.items ≡ chars text.now) }
+{
+    let mut name = Vec::new(alloc);
+    for character in text.chars() {
+        name.push(character)?;
+    }
+    Ok(name)
+}
+
+/// A character's code.
+fn code(character: char) -> i64
+    ensures { result ≡ pos character }
+{
+    i64::from(u32::from(character))
+}
+
+/// A value, as a signed integer.
+fn signed(value: u64) -> i64
+    requires { value < 2 ^ 63 }
+    ensures { result ≡ pos value }
+{
+    value as i64
+}
+
+/// Adds the list of the codes of a token.
+fn push_list(steps: &mut Vec<Step>, token: Token, source: &Source<'_>) -> Result<(), Stop>
+    requires ready { AreReady source.now.text.now [] steps.old.items }
+    requires given { IsTokenOf source.now.text.now token }
+    requires named { IsTrue (has_name token.kind) }
+    ensures ready { AreReady source.now.text.now [] steps.new.items }
+    ensures trees { OnOk result (trees_of source.now.text.now steps.new.items ≡ integers (token_name source.now.text.now token) ∷ trees_of source.now.text.now steps.old.items) }
+    ensures memory { IfErr result (λ stop. stop ≡ Stop.NoMemory) }
+{
+    let text = token_text(source.alloc, source.text, &token)?;
+    let name = characters(source.alloc, text.as_str())?;
+    push_codes(steps, &name, source)?;
+    steps.push(Step::Atom(Label::EmptyList))?;
+    link(steps, name.len(), source)?;
+    Ok(())
+}
+
+/// A first part of a term that has no terms in it.
+pub fn read_simple(
+    source: &Source<'_>,
+    cursor: &mut Cursor<'_>,
+    steps: &mut Vec<Step>,
+    word: Word,
+) -> Result<u16, Stop>
+    requires going { IsGoing (table_of source.now.ops.now) source.now.text.now cursor.old steps.old.items }
+    requires first { first_word cursor.old ≡ Some word }
+    ensures gives { let text = source.now.text.now in GivesTerm (trees_of text steps.old.items) (trees_of text steps.new.items) (ahead text cursor.new) result
+        (simple (lexed_of text word) (ahead text (after_word cursor.old)) word.token.kind) }
+    ensures going { IsGoing (table_of source.now.ops.now) source.now.text.now cursor.new steps.new.items }
+    ensures shorter { OnOk result (length cursor.new < length cursor.old) }
+{
+    match word.token.kind {
+        TokenKind::Integer => {
+            let value = integer_value(source.text, &word.token);
+            if value >= INTEGERS_END {
+                return Err(Stop::At(ReadCause::Number));
+            }
+            cursor.pass();
+            steps.push(Step::Integer(signed(value)))?;
+            Ok(0)
+        }
+        TokenKind::Variable => {
+            cursor.pass();
+            steps.push(Step::Variable(word.token))?;
+            Ok(0)
+        }
+        TokenKind::Codes => {
+            cursor.pass();
+            push_list(steps, word.token, source)?;
+            Ok(0)
+        }
+        _ => Err(Stop::At(ReadCause::Syntax)),
+    }
+}

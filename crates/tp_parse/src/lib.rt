@@ -1,0 +1,22 @@
+//! The reader of terms: operators, clauses and goals.
+#![tactic(auto)]
+
+mod build;
+mod cursor;
+mod fault;
+pub mod laws;
+mod leaves;
+mod read;
+mod reader;
+mod steps;
+mod stop;
+mod table;
+#[cfg(test)]
+mod tests;
+mod variables;
+mod whole;
+mod words;
+
+pub use fault::{ReadCause, ReadFault};
+pub use read::{ReadTerm, read_clause, read_goal};
+pub use table::{Op, OpFault, OpType, Ops};

@@ -1,0 +1,160 @@
+//! Whole clauses and goals, from their words.
+
+ghost use Rattle.std.specs.Prelude.{◌≡◌, ℕ, List, []};
+ghost use Rattle.tp_lex.specs.Tokens.{is_end};
+ghost use Rattle.tp_terms.specs.Names.{Grows};
+ghost use Rattle.tp_parse.specs.Gives.{Fails, IsGoing};
+ghost use Rattle.tp_parse.specs.Ops.{table_of};
+ghost use Rattle.tp_parse.specs.Reading.{finished};
+ghost use Rattle.tp_parse.specs.Steps.{trees_of};
+ghost use Rattle.tp_parse.specs.Texts.{byte_at};
+ghost use Rattle.tp_parse.specs.Tree.{Tree};
+ghost use Rattle.tp_parse.specs.Whole.{GivesEnd, GivesWhole, TellsSteps, TellsWhole, ended_of, ends_of, reading_of, to_of};
+ghost use Rattle.tp_parse.specs.Words.{AreKnown, ahead};
+
+use crate::build::build;
+use crate::cursor::Cursor;
+use crate::fault::{ReadCause, ReadFault};
+use crate::read::ReadTerm;
+use crate::reader::read;
+use crate::steps::Step;
+use crate::stop::Stop;
+use crate::words::{Extent, Source, Word};
+use tp_lex::TokenKind;
+use tp_terms::Atoms;
+
+/// The most levels of depth of a term.
+const MOST_LEVELS: u16 = 1000;
+
+/// The largest priority of a clause or a goal.
+const MOST_PRIORITY: u16 = 1200;
+
+/// Nothing is left.
+fn finish(cursor: &Cursor<'_>) -> Result<(), Stop>
+    ensures { (text : List ℕ) (tree : Tree) → GivesEnd tree (ahead text cursor.now) result (finished tree (ahead text cursor.now)) }
+{
+    match cursor.first() {
+        Some(_) => Err(Stop::At(ReadCause::Syntax)),
+        None => Ok(()),
+    }
+}
+
+/// The end of a clause or a goal.
+fn read_end(cursor: &mut Cursor<'_>, extent: Extent) -> Result<(), Stop>
+    ensures { (text : List ℕ) (tree : Tree) → GivesEnd tree (ahead text cursor.new) result (ends_of extent tree (ahead text cursor.old)) }
+{
+    let Some(word) = cursor.first() else {
+        return match extent {
+            Extent::Whole => Ok(()),
+            Extent::Clause => Err(Stop::At(ReadCause::Syntax)),
+        };
+    };
+    if word.token.kind == TokenKind::End {
+        cursor.pass();
+        return finish(cursor);
+    }
+    Err(Stop::At(ReadCause::Syntax))
+}
+
+/// Reads all words.
+fn read_all(
+    source: &Source<'_>,
+    cursor: &mut Cursor<'_>,
+    steps: &mut Vec<Step>,
+    extent: Extent,
+) -> Result<(), Stop>
+    requires known { AreKnown (table_of source.now.ops.now) source.now.text.now cursor.old }
+    requires none { steps.old.items ≡ [] }
+    ensures { GivesWhole source.now.text.now steps.new.items (ahead source.now.text.now cursor.new) result (reading_of extent (table_of source.now.ops.now) (ahead source.now.text.now cursor.old)) }
+{
+    read(source, cursor, steps, MOST_PRIORITY, MOST_LEVELS)?;
+    read_end(cursor, extent)
+}
+
+/// The byte of the next word, and that of the text's end where there is none.
+fn next_byte(cursor: &Cursor<'_>, end: usize) -> usize
+    ensures { (text : List ℕ) → result ≡ byte_at end (ahead text cursor.now) }
+{
+    match cursor.first() {
+        Some(word) => word.token.from,
+        None => end,
+    }
+}
+
+/// The steps of the term that all words are.
+fn steps_of(source: &Source<'_>, words: &[Word], extent: Extent) -> Result<Vec<Step>, ReadFault>
+    requires { AreKnown (table_of source.now.ops.now) source.now.text.now words.now }
+    ensures { TellsSteps (λ v. v.items) source.now.text.now result (reading_of extent (table_of source.now.ops.now) (ahead source.now.text.now words.now)) }
+{
+    let mut steps = Vec::new(source.alloc);
+    let mut cursor = Cursor::new(words);
+    match read_all(source, &mut cursor, &mut steps, extent) {
+        Ok(()) => Ok(steps),
+        Err(Stop::NoMemory) => Err(ReadFault::NoMemory),
+        Err(Stop::At(cause)) => Err(ReadFault::Refused {
+            byte: next_byte(&cursor, source.text.len()),
+            cause,
+        }),
+    }
+}
+
+/// The byte at which the first word begins, and that of the text's end where there is none.
+fn first_byte(words: &[Word], end: usize) -> usize
+    ensures { (text : List ℕ) → result ≡ byte_at end (ahead text words.now) }
+{
+    match words.first() {
+        Some(word) => word.token.from,
+        None => end,
+    }
+}
+
+/// The byte after the last word, and that of the text's end where there is none.
+fn last_byte(words: &[Word], end: usize) -> usize
+    ensures { (text : List ℕ) → result ≡ to_of end (ahead text words.now) }
+{
+    match words.last() {
+        Some(word) => word.token.to,
+        None => end,
+    }
+}
+
+fn is_end(kind: TokenKind) -> bool
+    ensures { result ≡ is_end kind }
+{
+    kind == TokenKind::End
+}
+
+/// Whether the last word is an end token; none where there is no word.
+pub fn is_ended(words: &[Word]) -> Option<bool>
+    ensures { (text : List ℕ) → result ≡ ended_of (ahead text words.now) }
+{
+    match words.last() {
+        Some(word) => Some(is_end(word.token.kind)),
+        None => None,
+    }
+}
+
+/// The term that all words are.
+pub fn read_words(
+    source: &Source<'_>,
+    words: &[Word],
+    extent: Extent,
+    atoms: &mut Atoms,
+) -> Result<ReadTerm, ReadFault>
+    requires { AreKnown (table_of source.now.ops.now) source.now.text.now words.now }
+    ensures read { TellsWhole atoms.new source.now.text.now (ahead source.now.text.now words.now) result (reading_of extent (table_of source.now.ops.now) (ahead source.now.text.now words.now)) }
+    ensures grows { Grows atoms.old atoms.new }
+{
+    let steps = steps_of(source, words, extent)?;
+    let (cells, root, variables) = build(source.alloc, source.text, &steps, atoms)?;
+    let vars = variables.count();
+    let named = variables.into_names(source.alloc)?;
+    Ok(ReadTerm {
+        cells,
+        root,
+        named,
+        vars,
+        from: first_byte(words, source.text.len()),
+        to: last_byte(words, source.text.len()),
+    })
+}
