@@ -1,0 +1,7 @@
+pub mod Back
+pub mod Names
+pub mod Text
+pub mod Under
+pub mod Escaping
+pub mod Progress
+pub mod Work

@@ -1,0 +1,213 @@
+-- What is left to write: pieces, each of which stands for its text.
+use Rattle.std.specs.Prelude.{◌≡◌, ℕ, zero, suc, ◌+◌, ◌*◌, ◌<◌, ◌≤◌, ◌^◌, Bool, true, false, not, ◌&&◌, ◌||◌, nat_lt, nat_eq, is_some, List, [], ◌∷◌, ◌++◌, length, Option, None, codes, decimal, if◌then◌else◌}
+use Rattle.std.specs.Fmt.{signed_decimal}
+use Rattle.tp_terms.specs.declared.cells.Cell.{Cell}
+use Rattle.tp_terms.specs.declared.cells.Cell.TheVariants as cell
+use Rattle.tp_terms.specs.declared.cells.Ref.{Ref}
+use Rattle.tp_terms.specs.declared.cells.AtomId.{AtomId}
+use Rattle.tp_terms.specs.Term.{Name, Term, Terms, Var, Int, Atom, Comp, NoMore, More, names_eq}
+use Rattle.tp_terms.specs.Shown.{name_at, StandsBefore, IsNamed, AreNamed}
+use Rattle.tp_terms.specs.Binds.{Bindings, bound_in}
+use Rattle.tp_parse.specs.Table.{Table, left_bound, right_bound}
+use Rattle.tp_write.specs.declared.pieces.End.{End}
+use Rattle.tp_write.specs.declared.pieces.Form.{Form}
+use Rattle.tp_write.specs.declared.pieces.Form.TheVariants.{Listed, Braces, Infix, Prefix, Plain}
+use Rattle.tp_write.specs.declared.pieces.Position.{Position}
+use Rattle.tp_write.specs.declared.pieces.Position.TheVariants.{Within, Operand, Left}
+use Rattle.tp_write.specs.declared.pieces.Piece.{Piece}
+use Rattle.tp_write.specs.declared.pieces.Piece.TheVariants as piece
+use Rattle.tp_write.specs.Names.{name_text}
+use Rattle.tp_write.specs.Text.{unary_form, binary_form, priority, priority_by, may_stand_left, operand_closed, left_closed, in_parentheses, args_text, written, all_written}
+use Rattle.tp_write.specs.Under.{under}
+
+-- ---- cells
+
+-- the terms of so many places under bindings
+abbrev pub unders : List Name → Bindings → List Cell → ℕ → ℕ → Terms
+unders names bindings cells first zero = NoMore
+unders names bindings cells first (suc n) = More (under names bindings cells first) (unders names bindings cells (suc first) n)
+
+-- the term of a cell that is no bound variable, under bindings
+abbrev pub cell_term : List Name → Bindings → List Cell → Cell → Term
+cell_term names bindings cells (cell.Var number) = Var number
+cell_term names bindings cells (cell.Int value) = Int value
+cell_term names bindings cells (cell.Atom name) = Atom (name_at names name.at)
+cell_term names bindings cells (cell.Comp name first count) = Comp (name_at names name.at) (unders names bindings cells first.at count)
+
+-- the place that a bound variable leads to
+abbrev pub next_of : Bindings → Cell → Option Ref
+next_of bindings (cell.Var number) = bound_in bindings number
+next_of bindings (cell.Int value) = None
+next_of bindings (cell.Atom name) = None
+next_of bindings (cell.Comp name first count) = None
+
+-- the place and the place at the end of its chain show the same term, which is that of the last cell
+pub record Ends (bindings : Bindings) (cells : List Cell) (at : ℕ) (end : End) : Type 0 where
+  pub place : end.place.at < length cells
+  pub before : StandsBefore end.place.at end.cell
+  pub named : (n : ℕ) → AreNamed n cells → IsNamed n end.cell
+  pub same : (names : List Name) → under names bindings cells at ≡ cell_term names bindings cells end.cell
+  pub last : (names : List Name) → under names bindings cells end.place.at ≡ cell_term names bindings cells end.cell
+
+-- ---- forms of cells
+
+abbrev pub compound_form : Table → Name → ℕ → Form
+compound_form table f zero = Plain
+compound_form table f (suc zero) = unary_form f (table.prefixes f)
+compound_form table f (suc (suc zero)) = binary_form f (table.infixes f)
+compound_form table f (suc (suc (suc n))) = Plain
+
+abbrev pub cell_form : Table → List Name → Cell → Form
+cell_form table names (cell.Var number) = Plain
+cell_form table names (cell.Int value) = Plain
+cell_form table names (cell.Atom name) = Plain
+cell_form table names (cell.Comp name first count) = compound_form table (name_at names name.at) count
+
+abbrev pub is_operator : Table → Name → Bool
+is_operator table a = is_some (table.prefixes a) || is_some (table.infixes a)
+
+abbrev pub is_operator_cell : Table → List Name → Cell → Bool
+is_operator_cell table names (cell.Var number) = false
+is_operator_cell table names (cell.Int value) = false
+is_operator_cell table names (cell.Atom name) = is_operator table (name_at names name.at)
+is_operator_cell table names (cell.Comp name first count) = false
+
+-- whether a cell of this form stands in parentheses at this position
+abbrev pub cell_closed : Table → List Name → Cell → Form → Position → Bool
+cell_closed table names c form (Within max) = nat_lt max (priority_by form)
+cell_closed table names c form (Operand bound) = is_operator_cell table names c || nat_lt bound (priority_by form)
+cell_closed table names c form (Left o) = (is_operator_cell table names c || nat_lt (left_bound o) (priority_by form)) || (nat_eq (priority_by form) o.0 && not (may_stand_left form))
+
+-- whether a term does
+abbrev pub closed : Table → Position → Term → Bool
+closed table (Within max) t = nat_lt max (priority table t)
+closed table (Operand bound) t = operand_closed table bound t
+closed table (Left o) t = left_closed table o t
+
+-- ---- pieces
+
+abbrev pub piece_text : Table → List Name → Bindings → List Cell → Piece → List ℕ
+piece_text table names bindings cells (piece.Mark c) = c ∷ []
+piece_text table names bindings cells (piece.Name name) = name_text (name_at names name.at)
+piece_text table names bindings cells (piece.Number n) = decimal n
+piece_text table names bindings cells (piece.Integer z) = signed_decimal z
+piece_text table names bindings cells (piece.Term at position) =
+    in_parentheses (closed table position (under names bindings cells at.at)) (written table (under names bindings cells at.at)).alone
+piece_text table names bindings cells (piece.Args first count) =
+    args_text table (unders names bindings cells first.at count) (all_written table (unders names bindings cells first.at count))
+piece_text table names bindings cells (piece.Behind at) = (written table (under names bindings cells at.at)).behind
+
+-- the text of a stack, whose last piece comes first
+unfoldable pub stack_text : Table → List Name → Bindings → List Cell → List Piece → List ℕ
+stack_text table names bindings cells [] = []
+stack_text table names bindings cells (p ∷ ps) = stack_text table names bindings cells ps ++ piece_text table names bindings cells p
+
+-- the piece speaks of atoms and places that are there
+abbrev pub IsPiece : ℕ → List Cell → Piece → Type 0
+IsPiece n cells (piece.Mark c) = Unit {0}
+IsPiece n cells (piece.Name name) = name.at < n
+IsPiece n cells (piece.Number k) = Unit {0}
+IsPiece n cells (piece.Integer z) = Unit {0}
+IsPiece n cells (piece.Term at position) = at.at < length cells
+IsPiece n cells (piece.Args first count) = (0 < count) × (first.at + count ≤ length cells) × (first.at + count < 2 ^ 64)
+IsPiece n cells (piece.Behind at) = at.at < length cells
+
+abbrev pub ArePieces : ℕ → List Cell → List Piece → Type 0
+ArePieces n cells [] = Unit {0}
+ArePieces n cells (p ∷ ps) = IsPiece n cells p × ArePieces n cells ps
+
+-- ---- how much is left to do
+
+abbrev mutual
+  pub weigh : Term → ℕ
+  weigh (Var v) = 1
+  weigh (Int n) = 1
+  weigh (Atom a) = 1
+  weigh (Comp f ts) = 1 + weigh_all ts
+
+  pub weigh_all : Terms → ℕ
+  weigh_all NoMore = 0
+  weigh_all (More t ts) = 1 + (weigh t + weigh_all ts)
+
+abbrev pub piece_weight : List Name → Bindings → List Cell → Piece → ℕ
+piece_weight names bindings cells (piece.Mark c) = 1
+piece_weight names bindings cells (piece.Name name) = 1
+piece_weight names bindings cells (piece.Number n) = 1
+piece_weight names bindings cells (piece.Integer z) = 1
+piece_weight names bindings cells (piece.Term at position) = 8 * weigh (under names bindings cells at.at) + 4
+piece_weight names bindings cells (piece.Args first count) = 8 * weigh_all (unders names bindings cells first.at count) + 1
+piece_weight names bindings cells (piece.Behind at) = 8 * weigh (under names bindings cells at.at) + 6
+
+unfoldable pub stack_weight : List Name → Bindings → List Cell → List Piece → ℕ
+stack_weight names bindings cells [] = 0
+stack_weight names bindings cells (p ∷ ps) = piece_weight names bindings cells p + stack_weight names bindings cells ps
+
+-- ---- the pieces of a cell, in the order of the stack: what comes first in the text stands last
+
+abbrev pub next_place : ℕ → Ref
+next_place at = record { at = at + 1 }
+
+-- an infix operator between its operands
+abbrev pub infix_pieces : List Name → AtomId → List Piece
+infix_pieces names name =
+    if names_eq (name_at names name.at) (codes ",") then piece.Mark 44 ∷ []
+    else piece.Mark 32 ∷ piece.Name name ∷ piece.Mark 32 ∷ []
+
+abbrev pub compound_pieces : List Name → Form → AtomId → Ref → ℕ → List Piece
+compound_pieces names Listed name first count =
+    piece.Mark 93 ∷ piece.Behind (next_place first.at) ∷ piece.Term first (Within 999) ∷ piece.Mark 91 ∷ []
+compound_pieces names Braces name first count = piece.Mark 125 ∷ piece.Term first (Within 1200) ∷ piece.Mark 123 ∷ []
+compound_pieces names (Infix o) name first count =
+    piece.Term (next_place first.at) (Operand (right_bound o)) ∷ (infix_pieces names name ++ piece.Term first (Left o) ∷ [])
+compound_pieces names (Prefix o) name first count =
+    piece.Term first (Operand (right_bound o)) ∷ piece.Mark 32 ∷ piece.Name name ∷ []
+compound_pieces names Plain name first count = piece.Mark 41 ∷ piece.Args first count ∷ piece.Mark 40 ∷ piece.Name name ∷ []
+
+-- a term without parentheses around it
+abbrev pub alone_pieces : List Name → Form → Cell → List Piece
+alone_pieces names form (cell.Var number) = piece.Number number ∷ piece.Mark 95 ∷ []
+alone_pieces names form (cell.Int value) = piece.Integer value ∷ []
+alone_pieces names form (cell.Atom name) = piece.Name name ∷ []
+alone_pieces names form (cell.Comp name first count) = compound_pieces names form name first count
+
+-- a parenthesis where it is needed
+abbrev pub mark_if : Bool → ℕ → List Piece
+mark_if true c = piece.Mark c ∷ []
+mark_if false c = []
+
+abbrev pub term_pieces : Table → List Name → Position → Cell → List Piece
+term_pieces table names position c =
+    let form = cell_form table names c in
+    let needed = cell_closed table names c form position in
+    mark_if needed 41 ++ (alone_pieces names form c ++ mark_if needed 40)
+
+abbrev pub args_pieces : Ref → ℕ → List Piece
+args_pieces first zero = []
+args_pieces first (suc zero) = piece.Term first (Within 999) ∷ []
+args_pieces first (suc (suc n)) = piece.Args (next_place first.at) (suc n) ∷ piece.Mark 44 ∷ piece.Term first (Within 999) ∷ []
+
+-- what follows an element, where it is no list
+abbrev pub tail_pieces : Ref → List Piece
+tail_pieces at = piece.Term at (Within 999) ∷ piece.Mark 124 ∷ []
+
+abbrev pub pair_pieces : List Name → AtomId → Ref → Ref → ℕ → List Piece
+pair_pieces names name at first (suc (suc zero)) =
+    if names_eq (name_at names name.at) (codes ".") then piece.Behind (next_place first.at) ∷ piece.Term first (Within 999) ∷ piece.Mark 44 ∷ []
+    else tail_pieces at
+pair_pieces names name at first count = tail_pieces at
+
+abbrev pub behind_pieces : List Name → Ref → Cell → List Piece
+behind_pieces names at (cell.Var number) = tail_pieces at
+behind_pieces names at (cell.Int value) = tail_pieces at
+behind_pieces names at (cell.Atom name) = if names_eq (name_at names name.at) (codes "[]") then [] else tail_pieces at
+behind_pieces names at (cell.Comp name first count) = pair_pieces names name at first count
+
+-- ---- a step of the work
+
+-- a part of the text was added, and the pieces that are left stand for the rest
+pub record Stepped (table : Table) (names : List Name) (bindings : Bindings) (cells : List Cell) (p : Piece) (old new : List Piece) (before now : List ℕ) : Type 0 where
+  pub part : List ℕ
+  pub added : now ≡ before ++ part
+  pub same : piece_text table names bindings cells p ++ stack_text table names bindings cells old ≡ part ++ stack_text table names bindings cells new
+  pub pieces : ArePieces (length names) cells new
+  pub smaller : stack_weight names bindings cells new < piece_weight names bindings cells p + stack_weight names bindings cells old

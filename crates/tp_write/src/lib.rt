@@ -1,0 +1,14 @@
+//! The written form of terms.
+#![tactic(auto)]
+
+mod expand;
+mod form;
+pub mod laws;
+mod names;
+mod pieces;
+#[cfg(test)]
+mod tests;
+mod write;
+
+pub use names::write_name;
+pub use write::write_term;
