@@ -1,0 +1,201 @@
+-- One clause more behind the others.
+use Rattle.std.proofs.Common.{◌≡◌, ℕ, zero, suc, ◌+◌, ◌<◌, ◌≤◌, ◌^◌, nat_eq, Bool, true, false, ◌&&◌, List, [], ◌∷◌, ◌++◌, length, map, slice_get, get_or, Option, Some, None, option_map, IfSome, Result, Ok, Err, cond, refl, sym, ap, subst, ◌∙◌, arith, append_assoc, append-nil, length-append, if◌then◌else◌}
+use Rattle.std.specs.List.{All}
+use Rattle.std.proofs.lemmas.Bool.{eqb-true, eq-eqb, eqb-false}
+use Rattle.std.proofs.lemmas.List.{map-append, length-map}
+use Rattle.std.proofs.lemmas.List.Elements.{All-head, All-tail, All-push, All-weaker, All-nil}
+use Rattle.tp_terms.specs.declared.cells.Cell.{Cell}
+use Rattle.tp_terms.specs.declared.cells.Cell.TheVariants as cell
+use Rattle.tp_terms.specs.declared.cells.Ref.{Ref}
+use Rattle.tp_terms.specs.declared.cells.AtomId.{AtomId}
+use Rattle.tp_terms.specs.Term.{Name, Term, Terms, occurs}
+use Rattle.tp_terms.specs.Shown.{shows, AreBuilt, AreNamed}
+use Rattle.tp_terms.proofs.ShownLemmas.{shows-append, AreNamed-append}
+use Rattle.tp_terms.proofs.NameLemmas.{slice_get-append}
+use Rattle.tp_meaning.specs.Clauses.{Clause}
+use Rattle.tp_clauses.specs.Contents.{Contents, IsBase, ViewFits, IsHead, AreBelow, base_of, clause_of, clause_by, is_of, is_of_by, places_from, places_of}
+use Rattle.tp_clauses.specs.Indexed.{ids_in, same_key}
+use Rattle.tp_clauses.specs.Kinds.{head_key, free_key, is_reserved_atom}
+use Rattle.tp_clauses.specs.Moved.{moved, moved_view, place_on}
+use Rattle.tp_clauses.specs.Parts.{contents_of, IsParts, AddsClause}
+use Rattle.tp_clauses.specs.declared.base.ClauseId.{ClauseId}
+use Rattle.tp_clauses.specs.declared.base.ClauseView.{ClauseView}
+use Rattle.tp_clauses.specs.declared.kind.Key.{Key}
+use Rattle.tp_clauses.specs.declared.fault.Cause.{Cause}
+use Rattle.tp_clauses.specs.declared.fault.Cause.TheVariants as cause
+use Rattle.tp_clauses.specs.declared.parts.Parts.{Parts}
+use Rattle.tp_clauses.proofs.MovedLemmas.{shows-moved, AreNamed-moved}
+
+-- ---- cells
+
+slice_get-behind : (cs : List Cell) (f : Cell → Cell) (ds : List Cell) (i : ℕ) → slice_get (cs ++ map f ds) (i + length cs) ≡ option_map f (slice_get ds i)
+slice_get-behind [] f ds i = ap (λ n. slice_get (map f ds) n) (let e : i + 0 ≡ i = omega arith in e) ∙ mapped ds i
+  where
+    mapped : (ds : List Cell) (i : ℕ) → slice_get (map f ds) i ≡ option_map f (slice_get ds i)
+    mapped [] i = refl
+    mapped (d ∷ ds) zero = refl
+    mapped (d ∷ ds) (suc i) = mapped ds i
+slice_get-behind (c ∷ cs) f ds i = ap (λ n. slice_get (c ∷ (cs ++ map f ds)) n) (let e : i + suc (length cs) ≡ suc (i + length cs) = omega arith in e) ∙ slice_get-behind cs f ds i
+
+IsHead-moved : (by : ℕ) (o : Option Cell) → IsHead o → IsHead (option_map (moved by) o)
+IsHead-moved by None h = h
+IsHead-moved by (Some (cell.Var v)) h = h
+IsHead-moved by (Some (cell.Int z)) h = h
+IsHead-moved by (Some (cell.Atom a)) h = h
+IsHead-moved by (Some (cell.Comp f first k)) h = h
+
+is_of-moved : (name : AtomId) (arity by : ℕ) (o : Option Cell) → is_of_by name arity (option_map (moved by) o) ≡ is_of_by name arity o
+is_of-moved name arity by None = refl
+is_of-moved name arity by (Some (cell.Var v)) = refl
+is_of-moved name arity by (Some (cell.Int z)) = refl
+is_of-moved name arity by (Some (cell.Atom a)) = refl
+is_of-moved name arity by (Some (cell.Comp f first k)) = refl
+
+-- a clause of the first cells fits the longer ones
+fits_longer : (cs ds : List Cell) (v : ClauseView) → ViewFits cs v → ViewFits (cs ++ ds) v
+fits_longer cs ds v h = record {
+  head = let l = h.head in omega (arith, length-append cs ds);
+  named = subst (λ o. IsHead o) (sym (slice_get-append cs ds v.head.at h.head)) h.named;
+  below = λ x e. h.below x (ap (occurs x) (sym (shows-append [] cs ds v.head.at h.head)) ∙ e);
+  body = go v.body h.body;
+}
+  where
+    go : (o : Option Ref) → IfSome o (λ place. (place.at < length cs) × AreBelow cs v.vars place) → IfSome o (λ place. (place.at < length (cs ++ ds)) × AreBelow (cs ++ ds) v.vars place)
+    go None k = tt
+    go (Some place) k = (let l = k.0 in omega (arith, length-append cs ds), λ x e. k.1 x (ap (occurs x) (sym (shows-append [] cs ds place.at k.0)) ∙ e))
+
+-- and one of the others fits them, moved on
+fits_moved : (cs ds : List Cell) (v : ClauseView) → ViewFits ds v → ViewFits (cs ++ map (moved (length cs)) ds) (moved_view (length cs) v)
+fits_moved cs ds v h = record {
+  head = within v.head.at h.head;
+  named = subst (λ o. IsHead o) (sym (slice_get-behind cs (moved (length cs)) ds v.head.at)) (IsHead-moved (length cs) (slice_get ds v.head.at) h.named);
+  below = λ x e. h.below x (ap (occurs x) (sym (shows-moved [] cs ds v.head.at)) ∙ e);
+  body = go v.body h.body;
+}
+  where
+    within : (at : ℕ) → at < length ds → at + length cs < length (cs ++ map (moved (length cs)) ds)
+    within at l = omega (arith, length-append cs (map (moved (length cs)) ds), length-map ds (moved (length cs)))
+
+    go : (o : Option Ref) → IfSome o (λ place. (place.at < length ds) × AreBelow ds v.vars place) → IfSome (option_map (place_on (length cs)) o) (λ place. (place.at < length (cs ++ map (moved (length cs)) ds)) × AreBelow (cs ++ map (moved (length cs)) ds) v.vars place)
+    go None k = tt
+    go (Some place) k = (within place.at k.0, λ x e. k.1 x (ap (occurs x) (sym (shows-moved [] cs ds place.at)) ∙ e))
+
+-- ---- clauses
+
+-- a clause stays the same when cells are added
+clause_longer : (names : List Name) (cs ds : List Cell) (v : ClauseView) → ViewFits cs v → clause_of names (cs ++ ds) v ≡ clause_of names cs v
+clause_longer names cs ds v h =
+    ap (λ t. clause_by t (option_map (λ place. shows names (cs ++ ds) place.at) v.body) v.vars) (shows-append names cs ds v.head.at h.head)
+    ∙ ap (λ b. clause_by (shows names cs v.head.at) b v.vars) (go v.body h.body)
+  where
+    go : (o : Option Ref) → IfSome o (λ place. (place.at < length cs) × AreBelow cs v.vars place) → option_map (λ place. shows names (cs ++ ds) place.at) o ≡ option_map (λ place. shows names cs place.at) o
+    go None k = refl
+    go (Some place) k = ap Some (shows-append names cs ds place.at k.0)
+
+clause_moved : (names : List Name) (cs ds : List Cell) (v : ClauseView) → clause_of names (cs ++ map (moved (length cs)) ds) (moved_view (length cs) v) ≡ clause_of names ds v
+clause_moved names cs ds v =
+    ap (λ t. clause_by t (option_map (λ place. shows names (cs ++ map (moved (length cs)) ds) place.at) (option_map (place_on (length cs)) v.body)) v.vars) (shows-moved names cs ds v.head.at)
+    ∙ ap (λ b. clause_by (shows names ds v.head.at) b v.vars) (go v.body)
+  where
+    go : (o : Option Ref) → option_map (λ place. shows names (cs ++ map (moved (length cs)) ds) place.at) (option_map (place_on (length cs)) o) ≡ option_map (λ place. shows names ds place.at) o
+    go None = refl
+    go (Some place) = ap Some (shows-moved names cs ds place.at)
+
+clauses_longer : (names : List Name) (cs ds : List Cell) (vs : List ClauseView) → All (ViewFits cs) vs → map (clause_of names (cs ++ ds)) vs ≡ map (clause_of names cs) vs
+clauses_longer names cs ds [] h = refl
+clauses_longer names cs ds (v ∷ vs) h =
+    ap (λ c. c ∷ map (clause_of names (cs ++ ds)) vs) (clause_longer names cs ds v (All-head (ViewFits cs) v vs h))
+    ∙ ap (λ l. clause_of names cs v ∷ l) (clauses_longer names cs ds vs (All-tail (ViewFits cs) v vs h))
+
+-- ---- places
+
+is_of-longer : (name : AtomId) (arity : ℕ) (cs ds : List Cell) (v : ClauseView) → ViewFits cs v → is_of name arity (cs ++ ds) v ≡ is_of name arity cs v
+is_of-longer name arity cs ds v h = ap (is_of_by name arity) (slice_get-append cs ds v.head.at h.head)
+
+abbrev pub id_at : ℕ → ClauseId
+id_at n = record { at = n }
+
+places_longer : (name : AtomId) (arity : ℕ) (cs ds : List Cell) (at : ℕ) (vs : List ClauseView) → All (ViewFits cs) vs → places_from name arity (cs ++ ds) at vs ≡ places_from name arity cs at vs
+places_longer name arity cs ds at [] h = refl
+places_longer name arity cs ds at (v ∷ vs) h =
+    let rest = places_longer name arity cs ds (suc at) vs (All-tail (ViewFits cs) v vs h) in
+    ap (λ b. if b then id_at at ∷ places_from name arity (cs ++ ds) (suc at) vs else places_from name arity (cs ++ ds) (suc at) vs) (is_of-longer name arity cs ds v (All-head (ViewFits cs) v vs h))
+    ∙ ap (λ l. if is_of name arity cs v then id_at at ∷ l else l) rest
+
+places_push : (name : AtomId) (arity : ℕ) (cs : List Cell) (at : ℕ) (vs : List ClauseView) (v : ClauseView) → places_from name arity cs at (vs ++ v ∷ []) ≡ (if is_of name arity cs v then places_from name arity cs at vs ++ id_at (at + length vs) ∷ [] else places_from name arity cs at vs)
+places_push name arity cs at [] v = ap (λ n. if is_of name arity cs v then id_at n ∷ [] else []) (let e : at ≡ at + 0 = omega arith in e)
+places_push name arity cs at (w ∷ vs) v = go (is_of name arity cs w) (is_of name arity cs v) (places_push name arity cs (suc at) vs v)
+  where
+    e : suc at + length vs ≡ at + suc (length vs)
+    e = omega arith
+
+    go : (a b : Bool) → places_from name arity cs (suc at) (vs ++ v ∷ []) ≡ (if b then places_from name arity cs (suc at) vs ++ id_at (suc at + length vs) ∷ [] else places_from name arity cs (suc at) vs)
+        → (if a then id_at at ∷ places_from name arity cs (suc at) (vs ++ v ∷ []) else places_from name arity cs (suc at) (vs ++ v ∷ []))
+        ≡ (if b then (if a then id_at at ∷ places_from name arity cs (suc at) vs else places_from name arity cs (suc at) vs) ++ id_at (at + suc (length vs)) ∷ [] else (if a then id_at at ∷ places_from name arity cs (suc at) vs else places_from name arity cs (suc at) vs))
+    go true true h = ap (λ l. id_at at ∷ l) h ∙ ap (λ n. id_at at ∷ (places_from name arity cs (suc at) vs ++ id_at n ∷ [])) e
+    go true false h = ap (λ l. id_at at ∷ l) h
+    go false true h = h ∙ ap (λ n. places_from name arity cs (suc at) vs ++ id_at n ∷ []) e
+    go false false h = h
+
+nat_eq-sym : (a b : ℕ) → nat_eq a b ≡ nat_eq b a
+nat_eq-sym a b = go (nat_eq a b) refl (nat_eq b a) refl
+  where
+    go : (x : Bool) → nat_eq a b ≡ x → (y : Bool) → nat_eq b a ≡ y → nat_eq a b ≡ nat_eq b a
+    go true e true f = e ∙ sym f
+    go false e false f = e ∙ sym f
+    go true e false f = absurd (eqb-false b a f (sym (eqb-true a b e)))
+    go false e true f = absurd (eqb-false a b e (sym (eqb-true b a f)))
+
+free_key_of : (a : AtomId) (k : ℕ) (key : Key) (name : AtomId) (arity : ℕ) → free_key a k ≡ Ok key → (nat_eq name.at a.at && nat_eq arity k) ≡ same_key key (record { name = name; arity = arity })
+free_key_of a k key name arity e = go (is_reserved_atom a k) e
+  where
+    go : (b : Bool) → ◌≡◌ {A = Result Key Cause} (if b then Err cause.Builtin else Ok (record { name = a; arity = k })) (Ok key) → (nat_eq name.at a.at && nat_eq arity k) ≡ same_key key (record { name = name; arity = arity })
+    go true h = absurd (cc)
+    go false h =
+        let same : ◌≡◌ {A = Key} (record { name = a; arity = k }) key = cc in
+        ap (λ b. b && nat_eq arity k) (nat_eq-sym name.at a.at) ∙ ap (λ b. nat_eq a.at name.at && b) (nat_eq-sym arity k) ∙ ap (λ (j : Key). same_key j (record { name = name; arity = arity })) same
+
+-- the key of a head is the one that its cell is of
+pub key_of : (o : Option Cell) (key : Key) (name : AtomId) (arity : ℕ) → head_key o ≡ Ok key → is_of_by name arity o ≡ same_key key (record { name = name; arity = arity })
+key_of None key name arity e = absurd (cc)
+key_of (Some (cell.Var v)) key name arity e = absurd (cc)
+key_of (Some (cell.Int z)) key name arity e = absurd (cc)
+key_of (Some (cell.Atom a)) key name arity e = free_key_of a 0 key name arity e
+key_of (Some (cell.Comp f first k)) key name arity e = free_key_of f k key name arity e
+
+-- ---- one clause more
+
+pub clause_added : (old new : Parts) (cells : List Cell) (v : ClauseView) (key : Key) → IsParts old → ViewFits cells v → head_key (slice_get cells v.head.at) ≡ Ok key
+    → new.cells.items ≡ old.cells.items ++ map (moved (length old.cells.items)) cells
+    → new.clauses.items ≡ old.clauses.items ++ moved_view (length old.cells.items) v ∷ []
+    → ((k : Key) → ids_in new.index k ≡ (if same_key key k then ids_in old.index k ++ id_at (length old.clauses.items) ∷ [] else ids_in old.index k))
+    → new.ops ≡ old.ops → AreBuilt new.cells.items → AddsClause old new cells v
+clause_added old new cells v key ok fits is added pushed indexed ops built =
+    let cs = old.cells.items in
+    let ds = map (moved (length old.cells.items)) cells in
+    let w = moved_view (length old.cells.items) v in
+    let vs = old.clauses.items in
+    let old_fit : All (ViewFits cs) vs = (ok.base).clauses in
+    let new_fit : All (ViewFits (cs ++ ds)) (vs ++ w ∷ []) = All-push (ViewFits (cs ++ ds)) vs w (All-weaker (ViewFits cs) (ViewFits (cs ++ ds)) (λ x. fits_longer cs ds x) vs old_fit) (fits_moved cs cells v fits) in
+    record {
+      parts = record {
+        base = record { built = built; clauses = subst (λ (l : List ClauseView). All (ViewFits new.cells.items) l) (sym pushed) (subst (λ (l : List Cell). All (ViewFits l) (vs ++ w ∷ [])) (sym added) new_fit) };
+        index = λ name arity.
+            indexed (record { name = name; arity = arity })
+            ∙ ap (λ l. if same_key key (record { name = name; arity = arity }) then l ++ id_at (length vs) ∷ [] else l) (ok.index name arity)
+            ∙ ap (λ b. if b then places_from name arity cs 0 vs ++ id_at (length vs) ∷ [] else places_from name arity cs 0 vs) (sym (key_of (slice_get cells v.head.at) key name arity is))
+            ∙ ap (λ b. if b then places_from name arity cs 0 vs ++ id_at (length vs) ∷ [] else places_from name arity cs 0 vs) (sym (ap (is_of_by name arity) (slice_get-behind cs (moved (length cs)) cells v.head.at) ∙ is_of-moved name arity (length cs) (slice_get cells v.head.at)))
+            ∙ ap (λ n. if is_of name arity (cs ++ ds) w then places_from name arity cs 0 vs ++ id_at n ∷ [] else places_from name arity cs 0 vs) (let z : length vs ≡ 0 + length vs = omega arith in z)
+            ∙ ap (λ l. if is_of name arity (cs ++ ds) w then l ++ id_at (0 + length vs) ∷ [] else l) (sym (places_longer name arity cs ds 0 vs old_fit))
+            ∙ sym (places_push name arity (cs ++ ds) 0 vs w)
+            ∙ ap (λ l. places_from name arity l 0 (vs ++ w ∷ [])) (sym added)
+            ∙ ap (λ l. places_from name arity new.cells.items 0 l) (sym pushed);
+      };
+      ops = ops;
+      clauses = λ names.
+          ap (λ l. map (clause_of names l) new.clauses.items) added ∙ ap (map (clause_of names (cs ++ ds))) pushed
+          ∙ map-append (clause_of names (cs ++ ds)) vs (w ∷ [])
+          ∙ ap (λ l. l ++ clause_of names (cs ++ ds) w ∷ []) (clauses_longer names cs ds vs old_fit)
+          ∙ ap (λ c. map (clause_of names cs) vs ++ c ∷ []) (clause_moved names cs cells v);
+      named = λ n a b. subst (AreNamed n) (sym added) (AreNamed-append n cs ds a (AreNamed-moved n (length cs) cells b));
+    }

@@ -1,0 +1,15 @@
+use Rattle.std.proofs.Common.{◌∙◌}
+use Rattle.tp_clauses.proofs.BaseLemmas.{base_told, fault_told, model_bytes}
+use Rattle.tp_clauses.proofs.base.Base.load.Goals as goal
+
+pub returns-in-Ok-load_text-clause-model : goal.returns-in-Ok-load_text-clause-model
+returns-in-Ok-load_text-clause-model c =
+    let told = base_told c.load_text.new.atoms c.args.text.now c.in-Ok.text.now c.in-Ok-load_text.parts c.in-Ok.ensures.cases.0 c.in-Ok.ensures.cases.1 c.in-Ok-load_text.ensures.model in
+    (told.0, told.1.0, told.1.1)
+
+pub returns-in-Err-load_text-clause-model : goal.returns-in-Err-load_text-clause-model
+returns-in-Err-load_text-clause-model c =
+    fault_told c.load_text.new.atoms c.args.text.now c.in-Ok.text.now c.in-Err-load_text.fault c.in-Ok.ensures.cases.0 c.in-Ok.ensures.cases.1 c.in-Err-load_text.ensures.model
+
+pub returns-in-Err-clause-model : goal.returns-in-Err-clause-model
+returns-in-Err-clause-model c = model_bytes c.args.text.now c.valid_up_to.result c.in-Err.ensures.cases.0 (c.valid_up_to.ensures ∙ c.in-Err.ensures.valid_len)

@@ -1,0 +1,32 @@
+use Rattle.std.proofs.Common.{ap, ◌∙◌, sym, subst, refl, arith, ◌<◌, Err}
+use Rattle.std.proofs.lemmas.Str.{IsCharBoundary-start}
+use Rattle.tp_terms.proofs.NameLemmas.{Grows-same, Grows-trans}
+use Rattle.tp_clauses.proofs.LoadLemmas.{most, loading_start, loading_more, loading_none, loading_err, ended_ok, ended_err}
+use Rattle.tp_clauses.proofs.load.load_text.Goals as goal
+
+pub terms-init : goal.terms-init
+terms-init c = record { loading = loading_start c.args.atoms.now c.args.text.now c.in-Ok.parts c.in-Ok.ensures (IsCharBoundary-start c.args.text.now c.utf8.text); grows = Grows-same c.args.atoms.now }
+
+pub terms-preserved : goal.terms-preserved
+terms-preserved c = record {
+  loading = loading_more c.terms.atoms c.read_next.new.atoms c.args.text.now c.terms.at c.terms.before c.terms.parts c.terms.invariant.loading c.in-Ok-Some.ensures.grows (subst (λ n. c.terms.before < n) (sym most) c.terms-test.true) c.read_next.new.parts c.in-Ok-Some.to (rw c.in-Ok-Some.field-0-is at c.in-Ok-Some.ensures.read);
+  grows = Grows-trans c.args.atoms.now c.terms.atoms c.read_next.new.atoms c.terms.invariant.grows c.in-Ok-Some.ensures.grows;
+}
+
+pub returns-in-Ok-None-clause-model : goal.returns-in-Ok-None-clause-model
+returns-in-Ok-None-clause-model c = loading_none c.terms.atoms c.read_next.new.atoms c.args.text.now c.terms.at c.terms.before c.terms.parts c.terms.invariant.loading c.in-Ok-None.ensures.grows (subst (λ n. c.terms.before < n) (sym most) c.terms-test.true) c.read_next.new.parts (rw c.in-Ok-None.field-0-is at c.in-Ok-None.ensures.read)
+
+pub returns-in-Ok-None-clause-grows : goal.returns-in-Ok-None-clause-grows
+returns-in-Ok-None-clause-grows c = Grows-trans c.args.atoms.now c.terms.atoms c.read_next.new.atoms c.terms.invariant.grows c.in-Ok-None.ensures.grows
+
+pub returns-in-Err-read_next-clause-model : goal.returns-in-Err-read_next-clause-model
+returns-in-Err-read_next-clause-model c = loading_err c.terms.atoms c.read_next.new.atoms c.args.text.now c.terms.at c.terms.before c.terms.parts c.terms.invariant.loading c.in-Err-read_next.ensures.grows (subst (λ n. c.terms.before < n) (sym most) c.terms-test.true) c.read_next.new.parts c.in-Err-read_next.fault (Err c.in-Err-read_next.fault) refl c.in-Err-read_next.ensures.read
+
+pub returns-in-Err-read_next-clause-grows : goal.returns-in-Err-read_next-clause-grows
+returns-in-Err-read_next-clause-grows c = Grows-trans c.args.atoms.now c.terms.atoms c.read_next.new.atoms c.terms.invariant.grows c.in-Err-read_next.ensures.grows
+
+pub returns-in-Ok-end_of-clause-model : goal.returns-in-Ok-end_of-clause-model
+returns-in-Ok-end_of-clause-model c = ended_ok c.terms.atoms c.args.text.now c.terms.at c.terms.before c.terms.parts c.terms.invariant.loading (omega (arith, c.terms-test.false, c.terms.auto.before-end, most)) c.in-Ok-end_of.ensures
+
+pub returns-in-Err-end_of-clause-model : goal.returns-in-Err-end_of-clause-model
+returns-in-Err-end_of-clause-model c = ended_err c.terms.atoms c.args.text.now c.terms.at c.terms.before c.terms.parts c.terms.invariant.loading (omega (arith, c.terms-test.false, c.terms.auto.before-end, most)) (Unit {0}) 1000001 c.in-Err-end_of.fault (Err c.in-Err-end_of.fault) (omega (arith, most)) refl c.in-Err-end_of.ensures

@@ -1,0 +1,13 @@
+pub mod Reserved
+pub mod Directives
+pub mod Model
+pub mod Contents
+pub mod Loaded
+pub mod Kinds
+pub mod Moved
+pub mod Indexed
+pub mod Standing
+pub mod Bodies
+pub mod Told
+pub mod Parts
+pub mod Goal

@@ -1,0 +1,18 @@
+//! The clauses of a model.
+#![tactic(auto)]
+
+mod append;
+mod base;
+mod body;
+mod directive;
+mod fault;
+mod index;
+mod kind;
+mod load;
+mod parts;
+mod reserved;
+#[cfg(test)]
+mod tests;
+
+pub use base::{Base, ClauseId, ClauseView};
+pub use fault::{Cause, LoadFault};

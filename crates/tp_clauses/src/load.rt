@@ -1,0 +1,278 @@
+//! The clauses of a text, one read term after another.
+
+ghost use Rattle.std.specs.Prelude.{◌≡◌, ◌<◌, ◌≤◌, ◌+◌, List, length, slice_get, Ok, IfOk};
+ghost use Rattle.std.specs.Str.{IsCharBoundary};
+ghost use Rattle.tp_terms.specs.Term.{Name};
+ghost use Rattle.tp_terms.specs.Names.{Grows, IsTable};
+ghost use Rattle.tp_terms.specs.Shown.{AreBuilt, AreNamed, shows};
+ghost use Rattle.tp_lex.specs.Next.{next};
+ghost use Rattle.tp_parse.specs.Ops.{table_of};
+ghost use Rattle.tp_parse.specs.Table.{start_table};
+ghost use Rattle.tp_parse.specs.Tells.{Tells};
+ghost use Rattle.tp_parse.specs.Texts.{Found};
+ghost use Rattle.tp_clauses.specs.Contents.{AreBelow};
+ghost use Rattle.tp_clauses.specs.Kinds.{head_key};
+ghost use Rattle.tp_clauses.specs.Model.{OfClause, by_token, cause_of, kind_of, model_from, most_terms, rule, with_head};
+ghost use Rattle.tp_clauses.specs.Parts.{IsParts};
+ghost use Rattle.tp_clauses.specs.Standing.{HasNames, IsNameable};
+ghost use Rattle.tp_clauses.specs.Told.{TellsEnd, TellsParts, TellsRead, TellsStep, TellsTerm, outcome};
+
+use crate::base::ClauseView;
+use crate::body::body_of;
+use crate::directive::{TermFault, run};
+use crate::fault::{Cause, LoadFault};
+use crate::kind::{Key, ReadKind, head_key, kind_of};
+use crate::parts::{Parts, add_clause, empty};
+use std::alloc::Global;
+use tp_lex::{LexFault, next_token};
+use tp_parse::{ReadCause, ReadFault, ReadTerm, read_clause};
+use tp_terms::symbols::INF;
+use tp_terms::{Atoms, Cells, NoMemory, Ref};
+
+/// The most read terms of a text, directives counted.
+const MOST_TERMS: u64 = 1_000_000;
+
+impl From<NoMemory> for TermFault {
+    ghost use Rattle.std.specs.Prelude.{◌≡◌};
+    ghost use Rattle.tp_clauses.specs.declared.directive.TermFault.TheVariants.{NoMemory as Refused};
+
+    ghost from_gives = { λ _ e. e ≡ Refused };
+
+    fn from(_refused: NoMemory) -> Self {
+        TermFault::NoMemory
+    }
+}
+
+/// The parts of the base of a text.
+pub fn load_text(alloc: Global, text: &str, atoms: &mut Atoms) -> Result<Parts, LoadFault>
+    ensures model { TellsParts atoms.new result (model_from most_terms 1 text.now start_table 0) }
+    ensures parts { IfOk result IsParts }
+    ensures grows { Grows atoms.old atoms.new }
+{
+    let mut parts = match empty(alloc) {
+        Ok(parts) => parts,
+        Err(NoMemory) => return Err(LoadFault::NoMemory),
+    };
+    let mut at = 0;
+    'terms: for before in 0..MOST_TERMS {
+        match read_next(&mut parts, alloc, text, at, before + 1, atoms) {
+            Ok(Some(to)) => at = to,
+            Ok(None) => return Ok(parts),
+            Err(fault) => return Err(fault),
+        }
+    }
+    match end_of(text, at, MOST_TERMS + 1) {
+        Ok(()) => Ok(parts),
+        Err(fault) => Err(fault),
+    }
+}
+
+/// Sees that no further read term begins.
+fn end_of(text: &str, at: usize, number: u64) -> Result<(), LoadFault>
+    requires { IsCharBoundary text.now at }
+    ensures { TellsEnd number result (next text.now at) }
+{
+    match next_token(text, at) {
+        Ok(None) => Ok(()),
+        Ok(Some(token)) => Err(refused(number, token.from, Cause::Many)),
+        Err(LexFault::BadToken(byte)) => Err(refused(number, byte, Cause::Token)),
+        Err(LexFault::NumberRange(byte)) => Err(refused(number, byte, Cause::Number)),
+        Err(LexFault::Unfinished(byte)) => Err(refused(number, byte, Cause::Unfinished)),
+    }
+}
+
+/// The refusal of a read term.
+fn refused(number: u64, byte: usize, cause: Cause) -> LoadFault
+    ensures { result ≡ LoadFault.Refused number byte cause }
+{
+    LoadFault::Refused {
+        clause: number,
+        byte: byte as u64,
+        cause,
+    }
+}
+
+/// Takes the read term from a byte on, and answers the byte behind it; none where no read term remains.
+fn read_next(
+    parts: &mut Parts,
+    alloc: Global,
+    text: &str,
+    at: usize,
+    number: u64,
+    atoms: &mut Atoms,
+) -> Result<Option<usize>, LoadFault>
+    requires place { IsCharBoundary text.now at }
+    requires parts { IsParts parts.old }
+    requires known { AreNamed (length atoms.old) parts.old.cells.items }
+    ensures read { TellsStep atoms.new parts.old parts.new text.now at number result }
+    ensures grows { Grows atoms.old atoms.new }
+{
+    match read_clause(alloc, text, at, &parts.ops, atoms) {
+        Ok(None) => Ok(None),
+        Ok(Some(read)) => {
+            let to = read.to;
+            match take_read(parts, alloc, read, number, atoms) {
+                Ok(()) => Ok(Some(to)),
+                Err(fault) => Err(fault),
+            }
+        }
+        Err(ReadFault::NoMemory) => Err(LoadFault::NoMemory),
+        Err(ReadFault::Refused { byte, cause }) => Err(refused(number, byte, cause_of(cause))),
+    }
+}
+
+/// The cause of a refusal by the reader.
+fn cause_of(cause: ReadCause) -> Cause
+    ensures { result ≡ cause_of cause }
+{
+    match cause {
+        ReadCause::Token => Cause::Token,
+        ReadCause::Number => Cause::Number,
+        ReadCause::Unfinished => Cause::Unfinished,
+        ReadCause::Syntax => Cause::Syntax,
+        ReadCause::Depth => Cause::Depth,
+        ReadCause::Arity => Cause::Arity,
+    }
+}
+
+/// Takes a read term, whose cells are dropped.
+fn take_read(
+    parts: &mut Parts,
+    alloc: Global,
+    read: ReadTerm,
+    number: u64,
+    atoms: &Atoms,
+) -> Result<(), LoadFault>
+    requires parts { IsParts parts.old }
+    requires within { (read.root).at < length (read.cells).items }
+    requires named { AreNamed (length atoms.now) (read.cells).items }
+    requires below { AreBelow (read.cells).items read.vars read.root }
+    requires known { AreNamed (length atoms.now) parts.old.cells.items }
+    ensures { TellsRead atoms.now parts.old parts.new number read.from result (outcome (table_of parts.old.ops) (kind_of (table_of parts.old.ops) (shows atoms.now (read.cells).items (read.root).at) read.vars)) }
+{
+    let (root, vars, from) = (read.root, read.vars, read.from);
+    let mut cells = read.cells;
+    let (places, known) = (cells.len(), atoms.len());
+    prove!(root.at < places);
+    prove!(INF.at < known);
+    match take_term(parts, alloc, &mut cells, root, vars, atoms) {
+        Ok(()) => Ok(()),
+        Err(TermFault::NoMemory) => Err(LoadFault::NoMemory),
+        Err(TermFault::Refused(cause)) => Err(refused(number, from, cause)),
+    }
+}
+
+/// Takes the term of a place.
+fn take_term(
+    parts: &mut Parts,
+    alloc: Global,
+    cells: &mut Cells,
+    root: Ref,
+    vars: u64,
+    atoms: &Atoms,
+) -> Result<(), TermFault>
+    requires parts { IsParts parts.old }
+    requires within { root.at < length cells.old.items }
+    requires names { HasNames atoms.now cells.old.items }
+    requires built { AreBuilt cells.old.items }
+    requires below { AreBelow cells.old.items vars root }
+    requires known { AreNamed (length atoms.now) parts.old.cells.items }
+    ensures { TellsTerm atoms.now parts.old parts.new result (outcome (table_of parts.old.ops) (kind_of (table_of parts.old.ops) (shows atoms.now cells.old.items root.at) vars)) }
+{
+    match kind_of(cells, root) {
+        ReadKind::Directive { goal } => run(cells, goal, atoms, &mut parts.ops),
+        ReadKind::Query => Err(TermFault::Refused(Cause::Directive)),
+        ReadKind::Grammar => Err(TermFault::Refused(Cause::Grammar)),
+        ReadKind::Rule { head, body } => take_rule(parts, alloc, cells, head, body, vars),
+        ReadKind::Fact => take_fact(parts, alloc, cells, root, vars),
+    }
+}
+
+/// Takes a clause that is a head alone.
+fn take_fact(
+    parts: &mut Parts,
+    alloc: Global,
+    cells: &Cells,
+    head: Ref,
+    vars: u64,
+) -> Result<(), TermFault>
+    requires parts { IsParts parts.old }
+    requires within { head.at < length cells.now.items }
+    requires built { AreBuilt cells.now.items }
+    requires below { AreBelow cells.now.items vars head }
+    ensures { (names : List Name) → HasNames names cells.now.items → AreNamed (length names) parts.old.cells.items →
+        TellsTerm names parts.old parts.new result (outcome (table_of parts.old.ops) (OfClause (with_head (shows names cells.now.items head.at) vars None))) }
+{
+    match head_key(cells, head) {
+        Ok(key) => {
+            let view = ClauseView {
+                head,
+                body: None,
+                vars,
+            };
+            add_clause(parts, alloc, cells, view, key)?;
+            Ok(())
+        }
+        Err(cause) => Err(TermFault::Refused(cause)),
+    }
+}
+
+/// Takes a clause with a head and a body.
+fn take_rule(
+    parts: &mut Parts,
+    alloc: Global,
+    cells: &mut Cells,
+    head: Ref,
+    body: Ref,
+    vars: u64,
+) -> Result<(), TermFault>
+    requires parts { IsParts parts.old }
+    requires head { head.at < length cells.old.items }
+    requires body { body.at < length cells.old.items }
+    requires built { AreBuilt cells.old.items }
+    requires nameable { IsNameable cells.old.items }
+    requires head_below { AreBelow cells.old.items vars head }
+    requires body_below { AreBelow cells.old.items vars body }
+    ensures { (names : List Name) → HasNames names cells.old.items → AreNamed (length names) parts.old.cells.items →
+        TellsTerm names parts.old parts.new result (outcome (table_of parts.old.ops) (OfClause (rule (shows names cells.old.items head.at) (shows names cells.old.items body.at) vars))) }
+{
+    match head_key(cells, head) {
+        Ok(key) => take_body(parts, alloc, cells, head, body, vars, key),
+        Err(cause) => Err(TermFault::Refused(cause)),
+    }
+}
+
+/// Takes a clause whose head defines a key.
+fn take_body(
+    parts: &mut Parts,
+    alloc: Global,
+    cells: &mut Cells,
+    head: Ref,
+    body: Ref,
+    vars: u64,
+    key: Key,
+) -> Result<(), TermFault>
+    requires parts { IsParts parts.old }
+    requires head { head.at < length cells.old.items }
+    requires body { body.at < length cells.old.items }
+    requires built { AreBuilt cells.old.items }
+    requires key { head_key (slice_get cells.old.items head.at) ≡ Ok key }
+    requires nameable { IsNameable cells.old.items }
+    requires head_below { AreBelow cells.old.items vars head }
+    requires body_below { AreBelow cells.old.items vars body }
+    ensures { (names : List Name) → HasNames names cells.old.items → AreNamed (length names) parts.old.cells.items →
+        TellsTerm names parts.old parts.new result (outcome (table_of parts.old.ops) (OfClause (rule (shows names cells.old.items head.at) (shows names cells.old.items body.at) vars))) }
+{
+    match body_of(alloc, cells, body)? {
+        Some(place) => {
+            let view = ClauseView {
+                head,
+                body: Some(place),
+                vars,
+            };
+            add_clause(parts, alloc, cells, view, key)?;
+            Ok(())
+        }
+        None => Err(TermFault::Refused(Cause::Body)),
+    }
+}
