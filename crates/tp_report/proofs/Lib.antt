@@ -1,0 +1,6 @@
+pub mod AddedLemmas
+pub mod EndLemmas
+pub mod SceneLemmas
+pub mod DoerLemmas
+pub mod WorldLemmas
+pub mod TestLemmas

@@ -1,0 +1,13 @@
+//! The report: the lines of an answer, and the last line of a run.
+#![tactic(auto)]
+
+mod answer;
+mod doer;
+mod end;
+mod pieces;
+mod scene;
+#[cfg(test)]
+mod tests;
+
+pub use answer::answer_text;
+pub use end::{EndLine, end_text};
