@@ -1,0 +1,57 @@
+//! What takes the answers of a run.
+
+ghost use Rattle.std.specs.Prelude.{◌≡◌, ℕ, ◌<◌, ◌≤◌, List, Option, Some, Err, length, map, slice_get, OnOk, IfErr};
+ghost use Rattle.tp_outside.specs.Count.{Rose};
+ghost use Rattle.tp_outside.specs.Taken.{added};
+ghost use Rattle.tp_engine.specs.Told.{IsSound};
+ghost use Rattle.tp_engine.specs.Answers.{Answer, answer_in};
+ghost use Rattle.tp_engine.specs.declared.answers.AnswerFault.{AnswerFault};
+
+use crate::view::AnswerView;
+use tp_terms::NoMemory;
+
+/// Why an answer wasn't taken.
+#[derive(Clone, Copy, Debug, PartialEq, Eq)]
+pub enum AnswerFault {
+    /// It couldn't be written.
+    Write,
+    /// Memory was refused.
+    NoMemory,
+}
+
+impl From<NoMemory> for AnswerFault {
+    ghost use Rattle.std.specs.Prelude.{◌≡◌};
+    ghost use Rattle.tp_engine.specs.declared.answers.AnswerFault.TheVariants.{NoMemory};
+
+    ghost from_gives = { λ _ fault. fault ≡ NoMemory };
+
+    fn from(_refused: NoMemory) -> Self {
+        AnswerFault::NoMemory
+    }
+}
+
+/// What takes answers, one at a time.
+pub trait Answers {
+    /// All that is shown, where it tells that.
+    ghost shown: { Self → Option (List ℕ) };
+
+    /// What one more answer adds to that.
+    ghost adds: { Self → Answer → List ℕ };
+
+    /// What may stand after a fault, by what stood before it, the answer and the fault.
+    ghost leaves: { Self → Answer → AnswerFault → Self → Type 0 };
+
+    /// How many faults there were.
+    ghost faults: { Self → ℕ };
+
+    /// Takes an answer as it is seen in an engine that met no want of memory.
+    ///
+    /// Answers `Write` only where the count of faults rose. A count that stands at its last value counts as risen.
+    fn answer(&mut self, view: &AnswerView<'_>) -> Result<(), AnswerFault>
+        requires { IsSound view.now }
+        ensures shown { OnOk result (shown self.new ≡ added (shown self.old) (adds self.old (answer_in view.now))) }
+        ensures left { IfErr result (λ fault. leaves self.old (answer_in view.now) fault self.new) }
+        ensures same { adds self.new ≡ adds self.old }
+        ensures never_falls { faults self.old ≤ faults self.new }
+        ensures write { result ≡ Err AnswerFault.Write → Rose (faults self.old) (faults self.new) };
+}

@@ -1,0 +1,118 @@
+//! Error terms.
+
+ghost use Rattle.std.specs.Prelude.{◌≡◌, ◌<◌, ◌+◌, ℤ, pos, List, length, IfOk};
+ghost use Rattle.tp_terms.specs.Term.{Name, Int};
+ghost use Rattle.tp_terms.specs.Names.{IsTable};
+ghost use Rattle.tp_terms.specs.Shown.{AreNamed, name_at, shows};
+ghost use Rattle.tp_meaning.specs.Checks.{unbound, type_error, existence_error, indicator, error};
+ghost use Rattle.tp_engine.specs.Built.{Built};
+ghost use Rattle.tp_engine.specs.Causes.{CauseStands, kind_term};
+
+use tp_store::Store;
+use tp_terms::symbols::{
+    CALLABLE, ERROR, EXISTENCE_ERROR, INSTANTIATION_ERROR, PROCEDURE, SLASH, TYPE_ERROR,
+};
+use tp_terms::{AtomId, Cell, NoMemory, Ref};
+
+/// Why an error is raised.
+#[derive(Clone, Copy, Debug)]
+pub enum Cause {
+    /// A goal is a variable.
+    Unbound,
+    /// A goal is an integer.
+    Number(i64),
+    /// A goal has no clauses, by its name and number of arguments.
+    Unknown(AtomId, u8),
+}
+
+/// A compound of the two arguments that were placed from `first` on.
+fn pair(name: AtomId, first: Ref) -> Cell
+    ensures { result ≡ Cell.Comp name first 2 }
+{
+    Cell::Comp {
+        name,
+        first,
+        count: 2,
+    }
+}
+
+/// An integer.
+fn integer(value: i64) -> Cell
+    ensures { result ≡ Cell.Int value }
+{
+    Cell::Int(value)
+}
+
+/// A number of arguments, as an integer.
+fn number(count: u8) -> Cell
+    ensures { result ≡ Cell.Int (pos count) }
+{
+    Cell::Int(count as i64)
+}
+
+/// The kind of the error that a predicate without clauses raises.
+fn unknown_kind(store: &mut Store, name: AtomId, count: u8) -> Result<Ref, NoMemory>
+    ensures last { IfOk result (λ kind. kind.at + 1 ≡ length store.new.cells) }
+    ensures built { IfOk result (λ kind. (names : List Name) → IsTable names → AreNamed (length names) store.old.cells → name.at < length names →
+        Built names store.old store.new kind.at (existence_error "procedure" (indicator (name_at names name.at) count))) }
+{
+    let args = store.place(Cell::Atom(name))?;
+    store.place(number(count))?;
+    let what = store.place(Cell::Atom(PROCEDURE))?;
+    store.place(pair(SLASH, args))?;
+    let kind = store.place(pair(EXISTENCE_ERROR, what))?;
+    Ok(kind)
+}
+
+/// The kind of the error that a variable as a goal raises.
+fn unbound_kind(store: &mut Store) -> Result<Ref, NoMemory>
+    ensures last { IfOk result (λ kind. kind.at + 1 ≡ length store.new.cells) }
+    ensures built { IfOk result (λ kind. (names : List Name) → IsTable names → AreNamed (length names) store.old.cells → Built names store.old store.new kind.at unbound) }
+{
+    let kind = store.place(Cell::Atom(INSTANTIATION_ERROR))?;
+    Ok(kind)
+}
+
+/// The kind of the error that an integer as a goal raises.
+fn number_kind(store: &mut Store, value: i64) -> Result<Ref, NoMemory>
+    ensures last { IfOk result (λ kind. kind.at + 1 ≡ length store.new.cells) }
+    ensures built { IfOk result (λ kind. (names : List Name) → IsTable names → AreNamed (length names) store.old.cells → Built names store.old store.new kind.at (type_error "callable" (Int value))) }
+{
+    let what = store.place(Cell::Atom(CALLABLE))?;
+    store.place(integer(value))?;
+    let kind = store.place(pair(TYPE_ERROR, what))?;
+    Ok(kind)
+}
+
+/// An error of a kind whose place is the last, with the name of a process.
+fn error(store: &mut Store, kind: Ref, process: AtomId) -> Result<Ref, NoMemory>
+    requires { kind.at + 1 ≡ length store.old.cells }
+    ensures { IfOk result (λ place. (names : List Name) → IsTable names → AreNamed (length names) store.old.cells → process.at < length names →
+        Built names store.old store.new place.at (error (shows names store.old.cells kind.at) (name_at names process.at))) }
+{
+    store.place(Cell::Atom(process))?;
+    let place = store.place(pair(ERROR, kind))?;
+    Ok(place)
+}
+
+/// The kind of an error, at the last place.
+fn kind_of(store: &mut Store, cause: Cause) -> Result<Ref, NoMemory>
+    ensures last { IfOk result (λ kind. kind.at + 1 ≡ length store.new.cells) }
+    ensures built { IfOk result (λ kind. (names : List Name) → IsTable names → AreNamed (length names) store.old.cells → CauseStands names cause → Built names store.old store.new kind.at (kind_term names cause)) }
+{
+    match cause {
+        Cause::Unbound => unbound_kind(store),
+        Cause::Number(value) => number_kind(store, value),
+        Cause::Unknown(name, count) => unknown_kind(store, name, count),
+    }
+}
+
+/// The place of an error, as a process raises it.
+pub fn raised(store: &mut Store, cause: Cause, process: AtomId) -> Result<Ref, NoMemory>
+    ensures { IfOk result (λ place. (names : List Name) → IsTable names → AreNamed (length names) store.old.cells → CauseStands names cause → process.at < length names →
+        Built names store.old store.new place.at (error (kind_term names cause) (name_at names process.at))) }
+{
+    let kind = kind_of(store, cause)?;
+    let place = error(store, kind, process)?;
+    Ok(place)
+}

@@ -1,0 +1,26 @@
+//! The engine: a search of a model's worlds, step by step or to its end. `world_of` of specs/Plain.antt is the world
+//! that an engine stands for, and `Told` of specs/Told.antt what contracts see of it.
+#![tactic(auto)]
+
+mod answers;
+mod calls;
+mod engine;
+mod errors;
+mod frames;
+mod machine;
+mod phase;
+mod program;
+mod run;
+mod start;
+mod state;
+#[cfg(test)]
+mod tests;
+mod turns;
+mod view;
+
+pub use answers::{AnswerFault, Answers};
+pub use engine::Engine;
+pub use phase::{Phase, Stepped};
+pub use run::{Ended, How};
+pub use start::StartFault;
+pub use view::AnswerView;
