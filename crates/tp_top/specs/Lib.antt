@@ -1,13 +1,5 @@
-pub mod Form
-pub mod Views
-pub mod Bound
-pub mod Tables
-pub mod Program
-pub mod Keys
-pub mod Worlds
-pub mod Sound
 pub mod Report
 pub mod Expected
-pub mod Engine
 pub mod Ended
 pub mod Replies
+pub mod Told

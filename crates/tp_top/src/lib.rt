@@ -1,11 +1,8 @@
 //! The whole program as one call.
 #![tactic(auto)]
 
-mod bindings;
-mod calls;
-mod engine;
-mod form;
-mod plain;
+mod answer;
+mod lines;
+mod refusal;
 mod report;
 pub mod run;
-mod table;

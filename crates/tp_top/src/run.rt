@@ -1,31 +1,19 @@
 //! The whole program as one call.
 
+ghost use Rattle.std.specs.Prelude.{◌≡◌, ◌≤◌, IfOk};
+ghost use Rattle.std.specs.Option.{option_map};
+ghost use Rattle.tp_top.specs.Ended.{number_of, words_of, Ended, Prepared};
+ghost use Rattle.tp_top.specs.Expected.{is_plain as is_plain_of, request};
+ghost use Rattle.tp_top.specs.Replies.{view_of};
+
 #[cfg(test)]
 mod tests;
 
-ghost use Rattle.std.specs.Prelude.{◌≡◌, ◌≤◌, Some, length, IfOk};
-ghost use Rattle.std.specs.Option.{option_map};
-ghost use Rattle.tp_top.specs.Ended.{number_of, words_of, Ended, Prepared};
-ghost use Rattle.tp_top.specs.Engine.{QueryFits};
-ghost use Rattle.tp_top.specs.Expected.{for_query, for_text, found, is_plain as is_plain_of, request};
-ghost use Rattle.tp_top.specs.Form as form;
-ghost use Rattle.tp_top.specs.Replies.{view_of};
-ghost use Rattle.tp_top.specs.Report.{report};
-ghost use Rattle.tp_top.specs.Sound.{ProgramFits, keys_in};
-ghost use Rattle.tp_top.specs.Views.{query_of, rules_of};
-
-use crate::engine::solve;
-use crate::form::{Program, Query, Stop, read_model, read_query};
-use crate::report::{Reply, report_of};
+use crate::answer::answer;
+use crate::report::Reply;
 use std::alloc::Global;
-use tp_outside::{LONGEST_TEXT, ReadError, Shelf, Sink, read_all, write_all};
+use tp_outside::{ReadError, Shelf, Sink, read_all, write_all};
 use tp_terms::NoMemory;
-
-/// The most clauses of a model.
-const MOST_RULES: usize = 1_000_000;
-
-/// The most steps of a search.
-const MOST_STEPS: u64 = 1_000_000;
 
 /// How a run ends. The number of each, from 0, is the exit status of the program.
 #[derive(Clone, Copy, Debug, PartialEq, Eq)]
@@ -87,49 +75,6 @@ fn request_of(words: &[String]) -> Option<(&str, &str)>
     }
 }
 
-/// The answer to a goal that was read.
-fn answer_query(alloc: Global, program: &Program<'_>, query: &Query<'_>) -> Result<Reply, NoMemory>
-    requires program { ProgramFits program.now }
-    requires query { QueryFits (keys_in program.now) query.now }
-    ensures { IfOk result (λ reply. report (query_of query.now).seen (found (rules_of program.now.rules.items) (query_of query.now)) ≡ Some (view_of reply)) }
-{
-    let solved = solve(alloc, program, query, MOST_STEPS)?;
-    report_of(alloc, &query.seen, &solved)
-}
-
-/// The answer to the text of a goal.
-fn answer_goal(alloc: Global, program: &Program<'_>, goal: &str) -> Result<Reply, NoMemory>
-    requires { ProgramFits program.now }
-    ensures { let rules = rules_of program.now.rules.items in
-        IfOk result (λ reply. for_query rules (form.query_of rules goal.now) ≡ Some (view_of reply)) }
-{
-    match read_query(alloc, program, goal.as_bytes()) {
-        Ok(query) => answer_query(alloc, program, &query),
-        Err(Stop::OutOfForm) => Reply::fixed(
-            alloc,
-            Status::Goal,
-            b"goal refused: byte 0 cause Syntax\n",
-        ),
-        Err(Stop::NoMemory) => Err(NoMemory),
-    }
-}
-
-/// The answer to the text of a model and of a goal.
-fn answer(alloc: Global, text: &[u8], goal: &str) -> Result<Reply, NoMemory>
-    requires { length text.now ≤ LONGEST_TEXT }
-    ensures { IfOk result (λ reply. for_text text.now goal.now ≡ Some (view_of reply)) }
-{
-    match read_model(alloc, text, MOST_RULES) {
-        Ok(program) => answer_goal(alloc, &program, goal),
-        Err(Stop::OutOfForm) => Reply::fixed(
-            alloc,
-            Status::Model,
-            b"model refused: clause 0 byte 0 cause Syntax\n",
-        ),
-        Err(Stop::NoMemory) => Err(NoMemory),
-    }
-}
-
 /// The answer to the words, before any of it is written.
 fn prepare<S: Shelf>(alloc: Global, words: &[String], shelf: &mut S) -> Result<Reply, NoMemory>
     ensures held_stays { S.held shelf.new ≡ S.held shelf.old }
@@ -141,16 +86,16 @@ fn prepare<S: Shelf>(alloc: Global, words: &[String], shelf: &mut S) -> Result<R
         return Reply::fixed(
             alloc,
             Status::Usage,
-            b"usage: tprolog MODEL GOAL [options]\n",
+            "usage: tprolog MODEL GOAL [options]\n",
         );
     };
     match read_all(alloc, shelf, model) {
         Ok(text) => answer(alloc, &text, goal),
-        Err(ReadError::Fault) => Reply::fixed(alloc, Status::Read, b"read fault\n"),
+        Err(ReadError::Fault) => Reply::fixed(alloc, Status::Read, "read fault\n"),
         Err(ReadError::TooLong) => Reply::fixed(
             alloc,
             Status::Model,
-            b"model refused: more than 16777216 bytes\n",
+            "model refused: more than 16777216 bytes\n",
         ),
         Err(ReadError::NoMemory) => Err(NoMemory),
     }
@@ -183,7 +128,7 @@ pub fn run<S: Shelf, W: Sink>(
     let Ok(reply) = prepare(alloc, words, shelf) else {
         return Status::Memory;
     };
-    match write_all(sink, &reply.text) {
+    match write_all(sink, reply.text.as_bytes()) {
         Ok(()) => reply.status,
         Err(_) => Status::Write,
     }

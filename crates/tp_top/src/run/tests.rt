@@ -75,16 +75,14 @@ fn run_over(
 
 const P: &[u8] = b"p(1). p(2).";
 
+const LIKES: &[u8] = b":- op(700,xfx,likes).\na likes b.";
+
 const USAGE: &str = "usage: tprolog MODEL GOAL [options]\n";
-
-const MODEL_REFUSED: &str = "model refused: clause 0 byte 0 cause Syntax\n";
-
-const GOAL_REFUSED: &str = "goal refused: byte 0 cause Syntax\n";
 
 const READ_FAULT: &str = "read fault\n";
 
 #[test]
-fn answers_searches(rt: HostRuntime) -> Result<(), Fail> {
+fn answers_texts(rt: HostRuntime) -> Result<(), Fail> {
     for (model, goal, status, text) in [
         (
             P,
@@ -93,16 +91,16 @@ fn answers_searches(rt: HostRuntime) -> Result<(), Fail> {
             "answer 1\nX = 1\n0 main: start\n0 main: end\nend 0 steps 4\nstopped after 4 steps\n",
         ),
         (
-            b"".as_slice(),
-            "true",
-            Status::Found,
-            "answer 1\n0 main: start\n0 main: end\nend 0 steps 4\nstopped after 4 steps\n",
-        ),
-        (
             P,
             "p(3)",
             Status::No,
             "no after 2 steps: 1 failed 0 deadlock 0 late\n",
+        ),
+        (
+            b"".as_slice(),
+            "q",
+            Status::Raised,
+            "error error(existence_error(procedure,q / 0),main) at 0 after 2 steps\n",
         ),
         (
             b"p :- p.",
@@ -110,6 +108,37 @@ fn answers_searches(rt: HostRuntime) -> Result<(), Fail> {
             Status::Budget,
             "budget after 1000000 steps\n",
         ),
+        (
+            LIKES,
+            "X likes Y",
+            Status::Found,
+            "answer 1\nX = a\nY = b\n0 main: start\n0 main: end\nend 0 steps 4\nstopped after 4 steps\n",
+        ),
+        (
+            b"p(1).\xff",
+            "true",
+            Status::Model,
+            "model refused: clause 0 byte 5 cause Utf8\n",
+        ),
+        (
+            b"p(1).\np(2).\np(",
+            "true",
+            Status::Model,
+            "model refused: clause 3 byte 14 cause Unfinished\n",
+        ),
+        (
+            b"hold(1).",
+            "q(",
+            Status::Model,
+            "model refused: clause 1 byte 0 cause Builtin\n",
+        ),
+        (
+            P,
+            "X =",
+            Status::Goal,
+            "goal refused: byte 3 cause Syntax\n",
+        ),
+        (P, " 1", Status::Goal, "goal refused: byte 1 cause Body\n"),
     ] {
         let left = run_over(rt.alloc(), &["m", goal], model, SMOOTH, SMOOTH)?;
         assert!(rt; left.status != Status::Memory, "for {goal}");
@@ -127,49 +156,11 @@ fn refuses_words(rt: HostRuntime) -> Result<(), Fail> {
         &["m", "true", "true"],
         &["-m", "true"],
         &["m", "-1"],
-        &["--", "m"],
-        &["m", "true", "--steps"],
     ] {
-        let left = run_over(rt.alloc(), words, b"", SMOOTH, SMOOTH)?;
+        let left = run_over(rt.alloc(), words, P, SMOOTH, SMOOTH)?;
         assert_eq!(rt; left.status, Status::Usage, "with {words:?}");
         assert_eq!(rt; left.taken.as_slice(), USAGE.as_bytes(), "with {words:?}");
     }
-    Ok(())
-}
-
-#[test]
-fn refuses_texts_out_of_form(rt: HostRuntime) -> Result<(), Fail> {
-    for (model, goal, status, text) in [
-        (P, "q", Status::Goal, GOAL_REFUSED),
-        (P, "", Status::Goal, GOAL_REFUSED),
-        (P, "p(1", Status::Goal, GOAL_REFUSED),
-        (P, "p(1). p(2).", Status::Goal, GOAL_REFUSED),
-        (P, "p(-1)", Status::Goal, GOAL_REFUSED),
-        (b"p(1)", "p(1)", Status::Model, MODEL_REFUSED),
-        (b"p(1).q.", "q", Status::Model, MODEL_REFUSED),
-        (b"p :- q.", "p", Status::Model, MODEL_REFUSED),
-        (b"hold(1).", "true", Status::Model, MODEL_REFUSED),
-        (b"p(f(1)).", "true", Status::Model, MODEL_REFUSED),
-        // The model comes before the goal.
-        (b"p(", "q(", Status::Model, MODEL_REFUSED),
-    ] {
-        let left = run_over(rt.alloc(), &["m", goal], model, SMOOTH, SMOOTH)?;
-        assert_eq!(rt; left.status, status, "for {goal}");
-        assert_eq!(rt; left.taken.as_slice(), text.as_bytes(), "for {goal}");
-    }
-    Ok(())
-}
-
-#[test]
-fn refuses_a_longer_model(rt: HostRuntime) -> Result<(), Fail> {
-    let alloc = rt.alloc();
-    let spaces = vec![in alloc; b' '; 16_777_217]?;
-    let left = run_over(alloc, &["m", "true"], spaces.as_slice(), SMOOTH, SMOOTH)?;
-    assert_eq!(rt; left.status, Status::Model);
-    assert_eq!(rt;
-        left.taken.as_slice(),
-        b"model refused: more than 16777216 bytes\n".as_slice()
-    );
     Ok(())
 }
 

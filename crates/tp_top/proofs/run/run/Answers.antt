@@ -10,9 +10,9 @@ returns-in_default-clause-ended g c = out_of_memory _ refl
 pub returns-in-Ok-write_all-clause-ended : goal.returns-in-Ok-write_all-clause-ended
 returns-in-Ok-write_all-clause-ended g c =
     wrote _ (view_of c.in-Ok.reply) c.in-Ok.ensures.reply
-    (c.in-Ok-write_all.ensures.all ∙ ap (added (g.W.Sink.taken c.args.sink.now)) c.deref.ensures.value)
+    (c.in-Ok-write_all.ensures.all ∙ ap (added (g.W.Sink.taken c.args.sink.now)) c.as_bytes.ensures.value)
 
 pub returns-clause-ended : goal.returns-clause-ended
 returns-clause-ended g c =
     cut_short _ (view_of c.in-Ok.reply) c.in-Ok.ensures.reply c.in-Err.ensures.rose
-    (subst (HasPrefix (g.W.Sink.taken c.args.sink.now) (g.W.Sink.taken c.write_all.new.sink)) c.deref.ensures.value c.in-Err.ensures.prefix)
+    (subst (HasPrefix (g.W.Sink.taken c.args.sink.now) (g.W.Sink.taken c.write_all.new.sink)) c.as_bytes.ensures.value c.in-Err.ensures.prefix)

@@ -1,0 +1,23 @@
+-- The model that a base has, and the goal that a read term is, under a table of names.
+use Rattle.std.specs.Prelude.{List, map}
+use Rattle.tp_terms.specs.Term.{Name}
+use Rattle.tp_parse.specs.Ops.{table_of}
+use Rattle.tp_parse.specs.Texts.{Found}
+use Rattle.tp_parse.specs.Tells.{named_of}
+use Rattle.tp_parse.specs.declared.read.ReadTerm.{ReadTerm}
+use Rattle.tp_meaning.specs.Body.{body}
+use Rattle.tp_clauses.specs.Contents.{Contents, base_of}
+use Rattle.tp_clauses.specs.Goal.{with_body}
+use Rattle.tp_clauses.specs.Model.{Model}
+use Rattle.tp_engine.specs.Program.{goal_term}
+use Rattle.tp_top.specs.Expected.{Answer, for_found}
+
+abbrev pub model_in : List Name → Contents → Model
+model_in names c = record { clauses = base_of names c; table = table_of c.ops }
+
+abbrev pub found_in : List Name → ReadTerm → Found
+found_in names t = record { term = goal_term names t; named = map named_of t.named; vars = t.vars; from = t.from; to = t.to }
+
+-- the answer to a goal that was read, which may have no body
+abbrev pub for_read : Model → Found → Answer
+for_read m f = for_found m (with_body f (body f.term))

@@ -1,0 +1,72 @@
+//! The lines of refusals.
+
+ghost use Rattle.std.specs.Prelude.{◌≡◌, IfOk};
+ghost use Rattle.tp_clauses.specs.Model.{cause_of as cause_of_reading, refusal};
+ghost use Rattle.tp_top.specs.Expected.{cause_word as word_of, goal_refused as goal_line, model_refused as model_line};
+ghost use Rattle.tp_top.specs.Replies.{view_of};
+
+use crate::report::Reply;
+use crate::run::Status;
+use std::alloc::Global;
+use tp_clauses::Cause;
+use tp_parse::ReadCause;
+use tp_terms::NoMemory;
+
+/// The word for a cause.
+fn cause_word(cause: Cause) -> &'static str
+    ensures { result.now ≡ word_of cause }
+{
+    match cause {
+        Cause::Utf8 => "Utf8",
+        Cause::Token => "Token",
+        Cause::Number => "Number",
+        Cause::Unfinished => "Unfinished",
+        Cause::Syntax => "Syntax",
+        Cause::Depth => "Depth",
+        Cause::Arity => "Arity",
+        Cause::Head => "Head",
+        Cause::Body => "Body",
+        Cause::Builtin => "Builtin",
+        Cause::Grammar => "Grammar",
+        Cause::Directive => "Directive",
+        Cause::Many => "Many",
+    }
+}
+
+/// The cause of a goal that has no reading.
+pub fn cause_of(cause: ReadCause) -> Cause
+    ensures { result ≡ cause_of_reading cause }
+{
+    match cause {
+        ReadCause::Token => Cause::Token,
+        ReadCause::Number => Cause::Number,
+        ReadCause::Unfinished => Cause::Unfinished,
+        ReadCause::Syntax => Cause::Syntax,
+        ReadCause::Depth => Cause::Depth,
+        ReadCause::Arity => Cause::Arity,
+    }
+}
+
+/// The answer to a model that is refused at a read term, which is counted from 1, and a byte.
+pub fn model_refused(alloc: Global, clause: u64, byte: u64, cause: Cause) -> Result<Reply, NoMemory>
+    ensures { IfOk result (λ reply. view_of reply ≡ model_line (refusal clause byte cause)) }
+{
+    let word = cause_word(cause);
+    let text = format!(in alloc; "model refused: clause {clause} byte {byte} cause {word}\n")?;
+    Ok(Reply {
+        status: Status::Model,
+        text,
+    })
+}
+
+/// The answer to a goal that is refused at a byte.
+pub fn goal_refused(alloc: Global, byte: usize, cause: Cause) -> Result<Reply, NoMemory>
+    ensures { IfOk result (λ reply. view_of reply ≡ goal_line (byte, cause)) }
+{
+    let word = cause_word(cause);
+    let text = format!(in alloc; "goal refused: byte {byte} cause {word}\n")?;
+    Ok(Reply {
+        status: Status::Goal,
+        text,
+    })
+}
