@@ -1,7 +1,7 @@
 -- The goals of the language by the places of their names.
-use Rattle.std.proofs.Common.{◌≡◌, ℕ, zero, suc, ◌+◌, ◌-◌, ◌<◌, ◌≤◌, nat_eq, nat_le, Bool, true, false, ◌&&◌, List, [], ◌∷◌, length, Option, Some, None, refl, sym, ap, ◌∙◌, arith, slice_get, if◌then◌else◌}
+use Rattle.std.proofs.Common.{◌≡◌, ℕ, zero, suc, ◌+◌, ◌<◌, nat_eq, nat_le, true, ◌&&◌, List, [], ◌∷◌, length, Option, Some, None, refl, sym, ap, ◌∙◌, arith, slice_get, if◌then◌else◌}
 use Rattle.std.proofs.lemmas.Bool.{eqb-true, eqb-false, ne_eqb}
-use Rattle.tp_terms.specs.Term.{Name, names_eq}
+use Rattle.tp_terms.specs.Term.{Name}
 use Rattle.tp_terms.specs.Names.{IsTable}
 use Rattle.tp_terms.specs.Shown.{name_at}
 use Rattle.tp_terms.specs.StartNames.{start_names}

@@ -1,6 +1,5 @@
-use Rattle.std.proofs.Common.{◌≡◌, ℕ, ◌+◌, ◌-◌, ◌<◌, ◌≤◌, List, length, Some, None, sym, ap, ◌∙◌, arith, slice_get}
-use Rattle.std.proofs.lemmas.Option.{slice_get-get_or, slice_get_past}
-use Rattle.tp_meaning.specs.Goals.{goal_kind, kind_of_row}
+use Rattle.std.proofs.Common.{◌-◌, sym, ap, ◌∙◌, arith}
+use Rattle.std.proofs.lemmas.Option.{slice_get_past}
 use Rattle.tp_meaning.specs.declared.goals.TheConstants.{GOALS}
 use Rattle.tp_meaning.proofs.OwnGoals.Found.{goal_kind-place, goal_kind-before, kind_of}
 use Rattle.tp_meaning.proofs.goals.goal_kind.Goals as goal
