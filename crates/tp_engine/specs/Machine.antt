@@ -1,30 +1,59 @@
 -- The machine of the code: its world and choices, and what holds of them.
-use Rattle.std.specs.Prelude.{◌≡◌, ℕ, Bool, true, false, ◌+◌, ◌<◌, ◌≤◌, ◌^◌, List, [], ◌∷◌, ◌++◌, map, reverse, length, Option, Some, None, All, IsTrue, is_some}
-use Rattle.tp_terms.specs.Term.{Name, Term}
-use Rattle.std.specs.List.{AllByRecursion}
+use Rattle.std.specs.Prelude.{◌≡◌, ℕ, Bool, true, false, ◌+◌, ◌<◌, ◌≤◌, ◌^◌, List, [], ◌∷◌, ◌++◌, map, reverse, drop, length, Option, Some, None, All, IsTrue, is_some}
+use Rattle.tp_terms.specs.declared.cells.Ref.{Ref}
+use Rattle.tp_terms.specs.Term.{Name, Term, Terms, term_of, count_of}
+use Rattle.tp_terms.specs.Shown.{AreNamed, shows}
+use Rattle.tp_terms.specs.Names.{IsTable, Grows}
 use Rattle.tp_meaning.specs.World.{World, start}
 use Rattle.tp_meaning.specs.Body.{body}
-use Rattle.tp_engine.specs.Program.{goal_term}
-use Rattle.tp_meaning.specs.Clauses.{Base}
+use Rattle.tp_meaning.specs.Goals.{goal_kind}
+use Rattle.tp_meaning.specs.Subst.{Subst, mgu}
+use Rattle.tp_meaning.specs.Clauses.{Clause, Base, predicate, renamed, head_of}
 use Rattle.tp_meaning.specs.Machine as machine
-use Rattle.tp_meaning.specs.Machine.{stepped}
+use Rattle.tp_meaning.specs.Machine.{IsChoice, stepped}
 use Rattle.tp_meaning.specs.Step.{searched}
-use Rattle.tp_meaning.proofs.Stack.{HasStack, HasStackUpTo}
-use Rattle.tp_store.specs.Contents.{seen}
+use Rattle.tp_meaning.proofs.Stack.{HasStack}
+use Rattle.tp_meaning.proofs.Holds.{Holds, Stands}
+use Rattle.tp_store.specs.Contents.{Contents, subst_of, seen}
+use Rattle.tp_clauses.specs.Contents.{IsBase, base_of}
+use Rattle.tp_engine.specs.declared.frames.Item.{Item}
+use Rattle.tp_engine.specs.declared.frames.Item.TheVariants.{Goal, Retry}
+use Rattle.tp_engine.specs.declared.machine.Alt.{Alt}
+use Rattle.tp_engine.specs.declared.machine.Alt.TheVariants.{Clause, Second}
 use Rattle.tp_engine.specs.declared.machine.Choice.{Choice}
 use Rattle.tp_engine.specs.declared.machine.Machine.{Machine}
-use Rattle.tp_engine.specs.declared.program.Program.{Program}
-use Rattle.tp_engine.specs.declared.phase.Phase.{Phase}
-use Rattle.tp_engine.specs.declared.phase.Phase.TheVariants as phase
 use Rattle.tp_engine.specs.declared.phase.Stepped.{Stepped}
 use Rattle.tp_engine.specs.declared.phase.Stepped.TheVariants as answer
-use Rattle.tp_engine.specs.Plain.{world_of}
+use Rattle.tp_engine.specs.Program.{GoalFits, goal_term}
+use Rattle.tp_engine.specs.Lists.{items_at}
+use Rattle.tp_engine.specs.Heads.{hits}
+use Rattle.tp_engine.specs.Plain.{Plain, world_of}
+use Rattle.tp_engine.specs.Stands.{PlainStands}
 use Rattle.tp_engine.specs.State.{plain_of}
 use Rattle.tp_engine.specs.Untried.{untried}
-use Rattle.tp_engine.specs.Fits.{PlainFits, ProgramFits, IsAt, IsHit, Running, base_in}
+
+-- ---- the program
+
+abbrev pub base_in : Machine → Base
+base_in m = base_of m.atoms m.base.now
+
+-- base and goal have their atoms in the machine's table
+pub record IsProgram (m : Machine) : Type 0 where
+  pub table : IsTable m.atoms
+  pub base : IsBase m.base.now
+  pub named : AreNamed (length m.atoms) m.base.now.cells
+  pub goal : GoalFits m.atoms m.goal.now
+
+-- no act changes base and goal, and names are only added
+pub record SameProgram (old new : Machine) : Type 0 where
+  pub base : new.base ≡ old.base
+  pub goal : new.goal ≡ old.goal
+  pub names : Grows old.atoms new.atoms
+
+-- ---- worlds and choices
 
 -- a choice, by its place of the untried worlds of its world
-abbrev pub open_at : Base → World → ℕ → ℕ → machine.Choice World
+abbrev pub open_at : Base → World → ℕ → Alt → machine.Choice World
 open_at base w stamp next = record { stamp = stamp; world = w; untried = untried base w next }
 
 abbrev pub choice_of : List Name → Base → Choice → machine.Choice World
@@ -35,62 +64,93 @@ abbrev pub choices_of : List Name → Base → List Choice → List (machine.Cho
 choices_of names base cs = map (choice_of names base) (reverse cs)
 
 -- after going back: the choice whose contents are those of the machine
-abbrev pub waiting_of : Base → World → ℕ → Option ℕ → List (machine.Choice World)
+abbrev pub waiting_of : Base → World → ℕ → Option Alt → List (machine.Choice World)
 waiting_of base w stamp None = []
 waiting_of base w stamp (Some next) = open_at base w stamp next ∷ []
 
-abbrev pub world_in : Program → Machine → World
-world_in p m = world_of p.atoms (plain_of m.state) m.stamp
+abbrev pub world_in : Machine → World
+world_in m = world_of m.atoms (plain_of m.state) m.stamp
 
-abbrev pub open_in : Program → Machine → List (machine.Choice World)
-open_in p m = waiting_of (base_in p) (world_in p m) m.stamp m.waiting ++ choices_of p.atoms (base_in p) m.choices.items
+abbrev pub open_in : Machine → List (machine.Choice World)
+open_in m = waiting_of (base_in m) (world_in m) m.stamp m.waiting ++ choices_of m.atoms (base_in m) m.choices.items
 
-abbrev pub state_in : Program → Machine → machine.State World
-state_in p m = record { world = world_in p m; choices = open_in p m }
+abbrev pub state_in : Machine → machine.State World
+state_in m = record { world = world_in m; choices = open_in m }
 
 -- the answer of a step, an error by its term
-abbrev pub answer_by : Program → Machine → Stepped → machine.Stepped Term
-answer_by p m answer.Went = machine.Went
-answer_by p m answer.Success = machine.Success
-answer_by p m (answer.Dead cause) = machine.Dead cause
-answer_by p m (answer.Raised place) = machine.Raised (seen p.atoms m.state.store place.at)
+abbrev pub answer_by : Machine → Stepped → machine.Stepped Term
+answer_by m answer.Went = machine.Went
+answer_by m answer.Success = machine.Success
+answer_by m (answer.Dead cause) = machine.Dead cause
+answer_by m (answer.Raised place) = machine.Raised (seen m.atoms m.state.store place.at)
 
--- a choice has a world left, that of the clause at its place
+-- ---- what is next in a choice
+
+-- the items of the running process
+abbrev pub items_in : Plain → List Item
+items_in p = items_at p.frames p.items
+
+-- the running process stands at a goal that clauses define, the one at a place having a unifier with it
+pub record IsHit (names : List Name) (base : Base) (p : Plain) (place : ℕ) : Type 0 where
+  pub process : ℕ
+  pub running : p.running ≡ Some process
+  pub goal : Ref
+  pub barrier : ℕ
+  pub rest : List Item
+  pub list : items_in p ≡ Goal goal barrier ∷ rest
+  pub name : Name
+  pub args : Terms
+  pub is : seen names p.store goal.at ≡ term_of name args
+  pub kind : goal_kind name (count_of args) ≡ None
+  pub clause : Clause
+  pub more : List Clause
+  pub here : drop place (predicate base name (count_of args)) ≡ clause ∷ more
+  pub hit : hits names p.store goal.at clause ≡ true
+  pub few : place < 2 ^ 63
+
+-- the running process stands at another try
+pub record IsAgain (p : Plain) : Type 0 where
+  pub process : ℕ
+  pub running : p.running ≡ Some process
+  pub goal : Ref
+  pub rest : List Item
+  pub list : items_in p ≡ Retry goal ∷ rest
+
+-- what is next can be gone on with
+abbrev pub GoesOn : List Name → Base → Plain → Alt → Type 0
+GoesOn names base p (Clause place) = IsHit names base p place
+GoesOn names base p Second = IsAgain p
+
 pub record ChoiceFits (names : List Name) (base : Base) (c : Choice) : Type 0 where
-  pub at : IsAt Running names (plain_of c.state)
-  pub hit : IsHit names base (plain_of c.state) c.next
-  pub few : c.next < 2 ^ 63
+  pub stands : PlainStands names (plain_of c.state)
+  pub next : GoesOn names base (plain_of c.state) c.next
 
--- every world of a state, also each that is untried, has at least so many variables
-abbrev pub HasVars : ℕ → machine.State World → Type 0
-HasVars n s = (n ≤ s.world.next) × AllByRecursion (λ c. (n ≤ c.world.next) × AllByRecursion (λ w. n ≤ w.next) c.untried) s.choices
+-- ---- the machine
 
 -- a machine that may make a step
-pub record IsMachine (p : Program) (m : Machine) : Type 0 where
+pub record IsMachine (m : Machine) : Type 0 where
   pub going : m.waiting ≡ None
-  pub fits : PlainFits p.atoms (plain_of m.state)
-  pub choices : All (ChoiceFits p.atoms (base_in p)) m.choices.items
-  pub stack : HasStack (searched (base_in p)) (state_in p m)
-  pub vars : HasVars p.goal.now.vars (state_in p m)
+  pub program : IsProgram m
+  pub stands : PlainStands m.atoms (plain_of m.state)
+  pub choices : All (ChoiceFits m.atoms (base_in m)) m.choices.items
+  pub worlds : Holds (Stands m.goal.now.vars) (state_in m)
+  pub stack : HasStack (searched (base_in m)) (state_in m)
+
+-- a machine that went back to its newest choice; without that one it might make a step
+pub record IsBack (m : Machine) : Type 0 where
+  pub next : Alt
+  pub waits : m.waiting ≡ Some next
+  pub machine : IsMachine (record m { waiting = None })
+  pub goes_on : GoesOn m.atoms (base_in m) (plain_of m.state) next
+  pub open_ : IsChoice (searched (base_in m)) (m.stamp + 1) (open_at (base_in m) (world_in m) m.stamp next)
 
 -- a machine at the start of the goal, which has a body
-pub record IsBegun (p : Program) (m : Machine) : Type 0 where
-  pub machine : IsMachine p m
-  pub world : world_in p m ≡ start (goal_term p.atoms p.goal.now) p.goal.now.vars
+pub record IsBegun (m : Machine) : Type 0 where
+  pub machine : IsMachine m
+  pub world : world_in m ≡ start (goal_term m.atoms m.goal.now) m.goal.now.vars
   pub choices : m.choices.items ≡ []
   pub stamp : m.stamp ≡ 0
-  pub body : IsTrue (is_some (body (goal_term p.atoms p.goal.now)))
-
--- a machine that went back to its newest choice
-pub record IsBack (p : Program) (m : Machine) : Type 0 where
-  pub next : ℕ
-  pub waits : m.waiting ≡ Some next
-  pub at : IsAt Running p.atoms (plain_of m.state)
-  pub hit : IsHit p.atoms (base_in p) (plain_of m.state) next
-  pub few : next < 2 ^ 63
-  pub choices : All (ChoiceFits p.atoms (base_in p)) m.choices.items
-  pub stack : HasStackUpTo (searched (base_in p)) (state_in p m)
-  pub vars : HasVars p.goal.now.vars (state_in p m)
+  pub body : IsTrue (is_some (body (goal_term m.atoms m.goal.now)))
 
 -- the place of an error is one of the cells
 abbrev pub ErrorStands : Machine → Stepped → Type 0
@@ -100,62 +160,30 @@ ErrorStands m (answer.Dead cause) = Unit {0}
 ErrorStands m (answer.Raised place) = place.at < length m.state.store.cells
 
 -- a step was made
-pub record Steps (p : Program) (old new : Machine) (r : Stepped) : Type 0 where
-  pub machine : IsMachine p new
-  pub step : (answer_by p new r, state_in p new) ≡ stepped (searched (base_in p)) (state_in p old)
+pub record Steps (old new : Machine) (r : Stepped) : Type 0 where
+  pub machine : IsMachine new
+  pub same : SameProgram old new
+  pub meaning : base_in new ≡ base_in old
+  pub step : (answer_by new r, state_in new) ≡ stepped (searched (base_in old)) (state_in old)
   pub bound : new.stamp ≤ old.stamp + 1
   pub place : ErrorStands new r
 
--- a choice may have been kept; all else stays
-pub record IsKept (old new : Machine) : Type 0 where
-  pub plain : plain_of new.state ≡ plain_of old.state
-  pub stamp : new.stamp ≡ old.stamp
-  pub waiting : new.waiting ≡ old.waiting
-
--- the clause at a place was entered: its world is the first of those from there on
-pub record IsEntered (p : Program) (old : Machine) (place : ℕ) (new : Machine) : Type 0 where
-  pub at : IsAt Running p.atoms (plain_of new.state)
-  pub world : untried (base_in p) (world_in p old) place ≡ world_in p new ∷ untried (base_in p) (world_in p old) (place + 1)
-  pub stamp : new.stamp ≡ old.stamp + 1
-  pub choices : new.choices ≡ old.choices
-  pub waiting : new.waiting ≡ old.waiting
-
 -- after going back to a choice, and where there was none
-abbrev pub RewindsTo : Program → Machine → Bool → Machine → Type 0
-RewindsTo p old true new = IsBack p new × (new.stamp < old.stamp)
-RewindsTo p old false new = IsMachine p new × (new.stamp ≡ old.stamp)
+abbrev pub RewindsTo : Machine → Bool → Machine → Type 0
+RewindsTo old true new = IsBack new × (new.stamp < old.stamp)
+RewindsTo old false new = IsMachine new × (new.stamp ≡ old.stamp)
 
--- ---- by the call that was the last
+-- it went back, where there was a choice
+pub record Rewinds (old : Machine) (found : Bool) (new : Machine) : Type 0 where
+  pub back : (found, state_in new) ≡ machine.rewound (state_in old)
+  pub same : SameProgram old new
+  pub meaning : base_in new ≡ base_in old
+  pub machine : RewindsTo old found new
 
--- a machine that may go on; no stamp is above the number of steps
-pub record IsReady (p : Program) (m : Machine) (steps number : ℕ) : Type 0 where
-  pub program : ProgramFits p
-  pub machine : IsMachine p m
-  pub bound : m.stamp ≤ steps
-  pub few : number ≤ steps
-
-pub record IsFresh (p : Program) (m : Machine) (steps number : ℕ) : Type 0 where
-  pub ready : IsReady p m steps number
-  pub none : steps ≡ 0
-  pub choices : m.choices.items ≡ []
-
-pub record IsRewound (p : Program) (m : Machine) (steps number : ℕ) : Type 0 where
-  pub program : ProgramFits p
-  pub back : IsBack p m
-  pub bound : m.stamp < steps
-  pub few : number ≤ steps
-
--- after a run only the state may be asked
-pub record IsDone (p : Program) (m : Machine) (steps number : ℕ) : Type 0 where
-  pub program : ProgramFits p
-  pub fits : PlainFits p.atoms (plain_of m.state)
-  pub vars : p.goal.now.vars ≤ m.state.store.vars
-
-abbrev pub Keeps : Phase → Program → Machine → ℕ → ℕ → Type 0
-Keeps phase.New = IsFresh
-Keeps (phase.Stepped r) = IsReady
-Keeps (phase.Rewound true) = IsRewound
-Keeps (phase.Rewound false) = IsReady
-Keeps phase.Resumed = IsReady
-Keeps phase.Ran = IsDone
-Keeps phase.Broken = λ p m steps number. Unit {0}
+-- it goes on with the first untried world of the choice that it went back to
+pub record Resumes (old new : Machine) : Type 0 where
+  pub machine : IsMachine new
+  pub same : SameProgram old new
+  pub meaning : base_in new ≡ base_in old
+  pub resumed : state_in new ≡ machine.resumed (state_in old)
+  pub bound : new.stamp ≡ old.stamp + 1

@@ -1,22 +1,43 @@
 -- The worlds that a step leaves to be tried later, by their place.
-use Rattle.std.specs.Prelude.{ℕ, List, [], ◌∷◌, drop, Some, None}
-use Rattle.tp_terms.specs.Term.{Term, Var, Int, Atom, Comp, count_of}
+use Rattle.std.specs.Prelude.{ℕ, List, [], ◌∷◌, drop, Option, Some, None}
+use Rattle.tp_terms.specs.Term.{Name, Term, Terms, Var, Int, Atom, Comp, NoMore, count_of, term_of}
 use Rattle.tp_meaning.specs.World.{World, Item, Goal, Commit, Retry, items_at}
+use Rattle.tp_meaning.specs.Search as search
+use Rattle.tp_meaning.specs.Turn.{Turn, Gives}
+use Rattle.tp_meaning.specs.Goals.{GoalKind, goal_kind}
+use Rattle.tp_meaning.specs.Process.{await_again}
 use Rattle.tp_meaning.specs.Clauses.{Base, predicate, worlds_of}
+use Rattle.tp_engine.specs.declared.machine.Alt.{Alt}
+use Rattle.tp_engine.specs.declared.machine.Alt.TheVariants.{Clause, Second}
 
--- the clauses of a goal's name and number of arguments
-abbrev pub clauses_for : Base → Term → Base
-clauses_for base (Var v) = []
-clauses_for base (Int z) = []
-clauses_for base (Atom f) = predicate base f 0
-clauses_for base (Comp f ts) = predicate base f (count_of ts)
+-- the second of two worlds
+abbrev pub second_of : Gives → List World
+second_of (search.Branch v (w ∷ [])) = w ∷ []
+second_of g = []
 
-abbrev pub untried_by : Base → World → ℕ → List Item → ℕ → List World
-untried_by base w p [] k = []
-untried_by base w p (Goal g b ∷ rest) k = worlds_of (record { world = w; process = p; rest = rest }) g (drop k (clauses_for base g))
-untried_by base w p (Commit c ∷ rest) k = []
-untried_by base w p (Retry g ∷ rest) k = []
+-- the worlds of a goal's clauses from a place on, where clauses define it
+abbrev pub untried_clauses : Base → Turn → Name → Terms → Option GoalKind → Alt → List World
+untried_clauses base t f ts None (Clause place) = worlds_of t (term_of f ts) (drop place (predicate base f (count_of ts)))
+untried_clauses base t f ts kind alt = []
 
--- the worlds of the clauses of the goal that is the first item of the running process, from a place on
-abbrev pub untried : Base → World → ℕ → List World
-untried base w k = elim (w.running) [ None ↦ [] | Some p ↦ untried_by base w p (items_at w.processes p) k ]
+abbrev pub untried_goal : Base → Turn → Term → Alt → List World
+untried_goal base t (Var v) alt = []
+untried_goal base t (Int z) alt = []
+untried_goal base t (Atom f) alt = untried_clauses base t f NoMore (goal_kind f 0) alt
+untried_goal base t (Comp f ts) alt = untried_clauses base t f ts (goal_kind f (count_of ts)) alt
+
+abbrev pub untried_again : Turn → Term → Alt → List World
+untried_again t g Second = second_of (await_again t g)
+untried_again t g (Clause place) = []
+
+-- by the first item and what is next; none where they don't belong together
+abbrev pub untried_by : Base → World → ℕ → List Item → Alt → List World
+untried_by base w p [] alt = []
+untried_by base w p (Goal g b ∷ rest) alt = untried_goal base (record { world = w; process = p; rest = rest }) g alt
+untried_by base w p (Commit c ∷ rest) alt = []
+untried_by base w p (Retry g ∷ rest) alt = untried_again (record { world = w; process = p; rest = rest }) g alt
+
+-- The part of the worlds of a step from a place on: of the clauses of the goal that is the running process's first
+-- item, or the second world of another try.
+abbrev pub untried : Base → World → Alt → List World
+untried base w alt = elim (w.running) [ None ↦ [] | Some p ↦ untried_by base w p (items_at w.processes p) alt ]

@@ -3,16 +3,22 @@
 #![tactic(auto)]
 
 mod answers;
-mod calls;
+mod boxes;
+mod clauses;
+mod control;
 mod engine;
 mod errors;
 mod frames;
+mod goals;
+mod heads;
+mod items;
 mod machine;
 mod phase;
-mod program;
 mod run;
+mod schedule;
 mod start;
 mod state;
+mod task;
 #[cfg(test)]
 mod tests;
 mod turns;

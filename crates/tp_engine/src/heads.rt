@@ -1,4 +1,4 @@
-//! Goals that are run by their clauses.
+//! The heads of clauses.
 
 ghost use Rattle.std.specs.Prelude.{◌≡◌, ◌<◌, ◌^◌, List, length, drop, IfOk, IfSome, OnOk};
 ghost use Rattle.std.specs.List.{position_from};
@@ -8,20 +8,11 @@ ghost use Rattle.tp_store.specs.Contents.{IsStore, Names};
 ghost use Rattle.std.specs.Prelude.{is_some};
 ghost use Rattle.tp_clauses.specs.Contents.{ViewFits};
 ghost use Rattle.tp_engine.specs.Program.{head_term};
-ghost use Rattle.tp_engine.specs.Fits.{unifier, hits, clauses_in, ProgramFits, Enters};
+ghost use Rattle.tp_engine.specs.Heads.{EntersClause, unifier};
 
-use crate::program::{Program, id_at};
 use tp_clauses::ClauseView;
 use tp_store::Store;
-use tp_terms::{AtomId, Cells, NoMemory, Ref};
-
-/// A goal that is run by its clauses: its place, its name and its number of arguments.
-#[derive(Clone, Copy, Debug)]
-pub struct Call {
-    pub goal: Ref,
-    pub name: AtomId,
-    pub count: u8,
-}
+use tp_terms::{Cells, NoMemory, Ref};
 
 /// Whether the head of a clause has a unifier with a goal. The store stays.
 pub fn meets(
@@ -45,7 +36,7 @@ pub fn meets(
 }
 
 /// Makes the head of a clause equal to a goal, where that can be, and answers the place of its body.
-pub fn enter(
+pub fn enter_clause(
     store: &mut Store,
     goal: Ref,
     cells: &Cells,
@@ -54,7 +45,7 @@ pub fn enter(
     requires goal { goal.at < length store.old.cells }
     requires clause { ViewFits cells.now.items clause }
     ensures enters { IfOk result (λ place. (names : List Name) → Names names store.old.cells → AreNamed (length names) cells.now.items →
-        Enters names goal.at cells.now.items clause store.old place store.new) }
+        EntersClause names goal.at cells.now.items clause store.old place store.new) }
     ensures store { IsStore store.new }
 {
     let base = store.claim(clause.vars)?;
@@ -65,30 +56,4 @@ pub fn enter(
     };
     let body = store.instance(cells, body, base)?;
     Ok(Some(body))
-}
-
-/// The first clause of a goal, from a place among its clauses on, whose head has a unifier with it. The store stays.
-pub fn next_match(
-    store: &mut Store,
-    program: &Program<'_>,
-    call: Call,
-    from: usize,
-) -> Result<Option<usize>, NoMemory>
-    requires program { ProgramFits program.now }
-    requires goal { call.goal.at < length store.old.cells }
-    requires name { call.name.at < length program.now.atoms }
-    requires atoms { AreNamed (length program.now.atoms) store.old.cells }
-    ensures same { OnOk result (store.new ≡ store.old) }
-    ensures found { IfOk result (λ r. r ≡ position_from (hits program.now.atoms store.old call.goal.at) from (drop from (clauses_in program.now call))) }
-    ensures few { IfOk result (λ r. IfSome r (λ k. k < 2 ^ 63)) }
-{
-    let places = program.places(call.name, call.count);
-    for k in from..places.len() {
-        let id = id_at(places, k);
-        let clause = program.base.clause(id);
-        if meets(store, call.goal, program.base.cells(), clause)? {
-            return Ok(Some(k));
-        }
-    }
-    Ok(None)
 }

@@ -1,0 +1,49 @@
+-- Parts of a step: a choice that is kept, and contents that the machine goes on to.
+use Rattle.std.specs.Prelude.{◌≡◌, ℕ, ◌+◌, ◌<◌, ◌^◌, ◌-◌, List, ◌∷◌, length, All}
+use Rattle.tp_terms.specs.Names.{IsTable, Grows}
+use Rattle.tp_meaning.specs.World.{World}
+use Rattle.tp_meaning.specs.Machine.{with_choice}
+use Rattle.tp_engine.specs.declared.machine.Alt.{Alt}
+use Rattle.tp_engine.specs.declared.machine.Alt.TheVariants.{Clause}
+use Rattle.tp_engine.specs.declared.machine.Machine.{Machine}
+use Rattle.tp_engine.specs.State.{plain_of}
+use Rattle.tp_engine.specs.Stands.{PlainStands}
+use Rattle.tp_engine.specs.Untried.{untried}
+use Rattle.tp_engine.specs.Machine.{ChoiceFits, GoesOn, IsMachine, base_in, choices_of, world_in}
+
+-- what is next in the machine's world
+abbrev pub untried_in : Machine → Alt → List World
+untried_in m next = untried (base_in m) (world_in m) next
+
+-- a choice of the machine's world may be kept
+pub record MayKeep (m : Machine) (next : Alt) : Type 0 where
+  pub stands : PlainStands m.atoms (plain_of m.state)
+  pub goes_on : GoesOn m.atoms (base_in m) (plain_of m.state) next
+  pub choices : All (ChoiceFits m.atoms (base_in m)) m.choices.items
+  pub left : 0 < length (untried_in m next)
+
+-- a choice of what is next was kept, where there is any; all else stays
+pub record IsKept (old : Machine) (next : Alt) (new : Machine) : Type 0 where
+  pub same : new ≡ record old { state = new.state; choices = new.choices }
+  pub plain : plain_of new.state ≡ plain_of old.state
+  pub fits : All (ChoiceFits old.atoms (base_in old)) new.choices.items
+  pub kept : choices_of old.atoms (base_in old) new.choices.items ≡ with_choice old.stamp (world_in old) (untried_in old next) (choices_of old.atoms (base_in old) old.choices.items)
+
+-- The machine goes on to contents with the next stamp. Names may be added; base, goal and choices stay.
+pub record Goes (old new : Machine) : Type 0 where
+  pub same : new ≡ record old { atoms = new.atoms; state = new.state; stamp = new.stamp }
+  pub names : Grows old.atoms new.atoms
+  pub table : IsTable new.atoms
+  pub stands : PlainStands new.atoms (plain_of new.state)
+  pub stamp : new.stamp ≡ old.stamp + 1
+
+-- the clause at a place was entered: its world is the first of those from there on
+pub record Enters (old : Machine) (place : ℕ) (new : Machine) : Type 0 where
+  pub goes : Goes old new
+  pub world : untried_in old (Clause place) ≡ world_in new ∷ untried_in old (Clause (place + 1))
+
+-- a machine that went back, and takes what is next
+pub record Returns (m : Machine) (next : Alt) : Type 0 where
+  pub machine : IsMachine m
+  pub goes_on : GoesOn m.atoms (base_in m) (plain_of m.state) next
+  pub few : m.stamp < 2 ^ 64 - 1

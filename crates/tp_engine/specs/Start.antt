@@ -1,0 +1,45 @@
+-- The contents at the start of a goal.
+use Rattle.std.specs.Prelude.{◌≡◌, ◌<◌, false, List, [], ◌∷◌, length, Some, None, pos}
+use Rattle.tp_terms.specs.declared.Limit.TheVariants as limit
+use Rattle.tp_terms.specs.declared.ProcStatus.TheVariants as status
+use Rattle.tp_terms.specs.declared.cells.Ref.{Ref}
+use Rattle.tp_terms.specs.declared.symbols.TheConstants.{MAIN}
+use Rattle.tp_terms.specs.Term.{Name}
+use Rattle.tp_terms.specs.Shown.{shows, AreNamed}
+use Rattle.tp_meaning.specs.Body.{body}
+use Rattle.tp_store.specs.Contents.{Contents, IsStore}
+use Rattle.tp_parse.specs.declared.read.ReadTerm.{ReadTerm}
+use Rattle.tp_engine.specs.declared.frames.Item.TheVariants.{Goal}
+use Rattle.tp_engine.specs.Program.{goal_term}
+use Rattle.tp_engine.specs.Plain.{Plain}
+
+-- `main` waits for its start with a goal
+abbrev pub waiting_at : Contents → Ref → Plain
+waiting_at c goal = record {
+  store = c;
+  frames = (Goal goal 0 ∷ []) ∷ [];
+  procs = record { name = MAIN; end = limit.Inf; started = false; status = status.Scheduled; items = Some (record { at = 0 }) } ∷ [];
+  slots = record { time = pos 0; number = 0; pid = 0 } ∷ [];
+  boxes = [] ∷ [];
+  events = [];
+  clock = pos 0;
+  insertion = 1;
+  running = None;
+  items = None;
+}
+
+-- a place for the body of a goal in a store that holds nothing else
+pub record IsPlaced (names : List Name) (goal : ReadTerm) (place : Ref) (c : Contents) : Type 0 where
+  pub store : IsStore c
+  pub atoms : AreNamed (length names) c.cells
+  pub within : place.at < length c.cells
+  pub body : body (goal_term names goal) ≡ Some (shows names c.cells place.at)
+  pub pairs : c.pairs ≡ []
+  pub vars : c.vars ≡ goal.vars
+
+-- the contents at the start of a goal
+pub record IsStart (names : List Name) (goal : ReadTerm) (p : Plain) : Type 0 where
+  pub store : Contents
+  pub place : Ref
+  pub is : p ≡ waiting_at store place
+  pub placed : IsPlaced names goal place store

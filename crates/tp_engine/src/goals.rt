@@ -1,0 +1,88 @@
+//! Goals, by their kinds.
+
+ghost use Rattle.std.specs.Prelude.{◌≡◌, ◌<◌, ◌+◌, Some, IfOk, length};
+ghost use Rattle.tp_terms.specs.Term.{Name};
+ghost use Rattle.tp_terms.specs.Shown.{AreNamed};
+ghost use Rattle.tp_store.specs.Contents.{IsStore};
+ghost use Rattle.tp_engine.specs.declared.task.Met.{Met};
+ghost use Rattle.tp_engine.specs.Meets.{IsMet};
+
+use crate::errors::{Cause, raised};
+use crate::machine::Machine;
+use crate::phase::Stepped;
+use crate::task::{Call, Met, Task};
+use tp_meaning::{GoalKind, goal_kind};
+use tp_store::Store;
+use tp_terms::{Cell, NoMemory, Ref};
+
+/// What a goal is, by its cell.
+pub fn met(store: &Store, goal: Ref) -> Met
+    requires goal { goal.at < length store.now.cells }
+    requires store { IsStore store.now }
+    ensures { (names : List Name) → AreNamed (length names) store.now.cells →
+        IsMet names store.now goal result }
+{
+    match store.top(goal) {
+        Cell::Var(_) => Met::Unbound,
+        Cell::Int(value) => Met::Number(value),
+        Cell::Atom(name) => Met::Named(Call {
+            name,
+            first: goal,
+            count: 0,
+        }),
+        Cell::Comp { name, first, count } => Met::Named(Call { name, first, count }),
+    }
+}
+
+impl<'a> Machine<'a> {
+    ghost use Rattle.std.specs.Prelude.{List, Option};
+    ghost use Rattle.tp_engine.specs.Machine.{Steps};
+    ghost use Rattle.tp_engine.specs.Meets.{Meets, Calls, IsCall, IsCause};
+
+    /// The running process meets a goal.
+    pub fn meet(&mut self, task: Task) -> Result<Stepped, NoMemory>
+        requires { Meets self.old task }
+        ensures { IfOk result (Steps self.old self.new) }
+    {
+        match met(&self.state.store, task.goal) {
+            Met::Unbound => self.raise(task, Cause::Unbound),
+            Met::Number(value) => self.raise(task, Cause::Number(value)),
+            Met::Named(call) => self.call(task, call),
+        }
+    }
+
+    /// The running process meets a goal with a name.
+    fn call(&mut self, task: Task, call: Call) -> Result<Stepped, NoMemory>
+        requires meets { Meets self.old task }
+        requires call { IsCall self.old.atoms self.old.state.store task.goal call }
+        ensures { IfOk result (Steps self.old self.new) }
+    {
+        match goal_kind(call.name, call.count) {
+            None => self.run_clauses(task, call),
+            Some(GoalKind::Control(goal)) => self.control(task, call, goal),
+            Some(_) => self.raise(task, Cause::Unknown(call.name, call.count)),
+        }
+    }
+
+    /// A goal raises an error.
+    pub fn raise(&mut self, task: Task, cause: Cause) -> Result<Stepped, NoMemory>
+        requires meets { Meets self.old task }
+        requires cause { IsCause self.old task cause }
+        ensures { IfOk result (Steps self.old self.new) }
+    {
+        let process = self.state.procs[task.process].name;
+        let place = raised(&mut self.state.store, cause, process)?;
+        Ok(Stepped::Raised(place))
+    }
+
+    /// The place of an argument behind the first.
+    pub fn argument(&self, call: Call, n: usize) -> Ref
+        requires { call.first.at + n < length self.now.state.store.cells }
+        ensures { result.at ≡ call.first.at + n }
+    {
+        let _places = self.state.store.cells().len();
+        Ref {
+            at: call.first.at + n,
+        }
+    }
+}

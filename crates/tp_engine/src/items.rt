@@ -1,0 +1,139 @@
+//! The items of the running process.
+
+ghost use Rattle.std.specs.Prelude.{◌≡◌, Some, None, IfOk, IfSome, OnOk, ◌∷◌, ◌<◌, ◌^◌, ◌-◌, length, All};
+ghost use Rattle.tp_terms.specs.Term.{Name};
+ghost use Rattle.tp_terms.specs.Shown.{AreNamed};
+ghost use Rattle.tp_store.specs.Contents.{IsStore};
+ghost use Rattle.tp_meaning.specs.Clauses.{Base};
+ghost use Rattle.tp_meaning.specs.Machine.{cut_from};
+ghost use Rattle.tp_engine.specs.declared.frames.Item.{Item};
+ghost use Rattle.tp_engine.specs.declared.machine.Choice.{Choice};
+ghost use Rattle.tp_engine.specs.Machine.{choices_of};
+
+use crate::frames::Item;
+use crate::machine::{Alt, Choice, Machine};
+use crate::phase::Stepped;
+use crate::task::Task;
+use tp_terms::{EventKind, ItemId, NoMemory, ProcStatus, Ref};
+
+/// Removes the choices with this stamp or a higher one.
+fn cut_choices(choices: &mut Vec<Choice>, stamp: u64)
+    ensures cut { (names : List Name) (base : Base) →
+        choices_of names base choices.new.items
+        ≡ cut_from stamp (choices_of names base choices.old.items) }
+    ensures within { (P : Choice → Type 0) → All P choices.old.items → All P choices.new.items }
+{
+    'cut: while let Some(choice) = choices.last() {
+        if choice.stamp < stamp {
+            return;
+        }
+        choices.pop();
+    }
+}
+
+impl<'a> Machine<'a> {
+    ghost use Rattle.std.specs.Prelude.{List};
+    ghost use Rattle.tp_engine.specs.declared.machine.Alt.{Alt};
+    ghost use Rattle.tp_engine.specs.Machine.{Steps, Resumes};
+    ghost use Rattle.tp_engine.specs.Meets.{Runs, HasFirst};
+    ghost use Rattle.tp_engine.specs.Goes.{MayKeep, IsKept, Returns};
+
+    /// The running process takes its first item, or ends where it has none.
+    pub fn advance(&mut self, process: usize) -> Result<Stepped, NoMemory>
+        requires { Runs self.old process }
+        ensures { IfOk result (Steps self.old self.new) }
+    {
+        let Some(first) = self.state.items else {
+            return self.end(process);
+        };
+        let (item, rest) = self.state.frames.get(first);
+        match item {
+            Item::Goal { goal, barrier } => self.meet(Task {
+                process,
+                goal,
+                barrier,
+                rest,
+            }),
+            Item::Commit(stamp) => Ok(self.commit(process, stamp, rest)),
+            Item::Retry(goal) => self.try_again(process, goal, rest),
+        }
+    }
+
+    /// A process without items ends.
+    fn end(&mut self, process: usize) -> Result<Stepped, NoMemory>
+        requires runs { Runs self.old process }
+        requires none { self.old.state.items ≡ None }
+        ensures { IfOk result (Steps self.old self.new) }
+    {
+        self.state.leave(process, ProcStatus::Ended);
+        self.state.note(process, EventKind::End)?;
+        self.state.mark_others(process);
+        self.stamp += 1;
+        Ok(Stepped::Went)
+    }
+
+    /// The choices from a stamp on are removed.
+    fn commit(&mut self, _process: usize, stamp: u64, rest: Option<ItemId>) -> Stepped
+        requires { HasFirst self.old _process (Item.Commit stamp) rest }
+        ensures { Steps self.old self.new result }
+    {
+        self.state.items = rest;
+        cut_choices(&mut self.choices, stamp);
+        self.stamp += 1;
+        Stepped::Went
+    }
+
+    // ---- conditions that are waited for
+
+    /// A condition that a process waits for is tried again. Where that fails, the process goes on waiting.
+    fn try_again(
+        &mut self,
+        _process: usize,
+        goal: Ref,
+        rest: Option<ItemId>,
+    ) -> Result<Stepped, NoMemory>
+        requires { HasFirst self.old _process (Item.Retry goal) rest }
+        ensures { IfOk result (Steps self.old self.new) }
+    {
+        self.keep(Alt::Second)?;
+        self.state.items = rest;
+        self.state.push(Item::Commit(self.stamp))?;
+        self.state.push(Item::Goal {
+            goal,
+            barrier: self.stamp + 1,
+        })?;
+        self.stamp += 1;
+        Ok(Stepped::Went)
+    }
+
+    /// The process goes on waiting.
+    pub fn resume_second(&mut self) -> Result<(), NoMemory>
+        requires { Returns self.old Alt.Second }
+        ensures { OnOk result (Resumes (record self.old { waiting = Some Alt.Second }) self.new) }
+    {
+        let Some(process) = self.state.running else {
+            unreachable!()
+        };
+        self.state
+            .leave(process, ProcStatus::Parked { marked: false });
+        self.stamp += 1;
+        Ok(())
+    }
+
+    // ---- choices
+
+    /// Keeps a choice of what is next.
+    pub fn keep(&mut self, next: Alt) -> Result<(), NoMemory>
+        requires { MayKeep self.old next }
+        ensures { OnOk result (IsKept self.old next self.new) }
+    {
+        let alloc = *self.choices.allocator();
+        let state = self.state.copy_all(alloc)?;
+        self.choices.push(Choice {
+            stamp: self.stamp,
+            state,
+            next,
+        })?;
+        Ok(())
+    }
+}
