@@ -1,5 +1,4 @@
 pub mod Program
-pub mod Code
 pub mod Lists
 pub mod Boxes
 pub mod Plain
@@ -14,7 +13,3 @@ pub mod Machine
 pub mod Meets
 pub mod Goes
 pub mod Start
-pub mod Counted
-pub mod Told
-pub mod Answers
-pub mod Ended

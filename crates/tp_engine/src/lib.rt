@@ -2,11 +2,9 @@
 //! that an engine stands for, and `Told` of specs/Told.antt what contracts see of it.
 #![tactic(auto)]
 
-mod answers;
 mod boxes;
 mod clauses;
 mod control;
-mod engine;
 mod errors;
 mod frames;
 mod goals;
@@ -14,19 +12,8 @@ mod heads;
 mod items;
 mod machine;
 mod phase;
-mod run;
 mod schedule;
-mod start;
 mod state;
 mod task;
-#[cfg(test)]
-mod tests;
-mod turns;
-mod view;
 
-pub use answers::{AnswerFault, Answers};
-pub use engine::Engine;
 pub use phase::{Phase, Stepped};
-pub use run::{Ended, How};
-pub use start::StartFault;
-pub use view::AnswerView;

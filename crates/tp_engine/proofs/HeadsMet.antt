@@ -20,7 +20,7 @@ use Rattle.tp_clauses.specs.declared.base.ClauseView.{ClauseView}
 use Rattle.tp_clauses.specs.Contents as kept
 use Rattle.tp_clauses.specs.Contents.{AreBelow, IsHead, ViewFits, clause_of, clauses_at}
 use Rattle.tp_engine.specs.Program.{head_term, body_term}
-use Rattle.tp_engine.specs.Fits.{unifier, hits, Enters}
+use Rattle.tp_engine.specs.Heads.{unifier, hits, EntersClause}
 
 -- ---- a store with further variables and cells
 
@@ -162,7 +162,7 @@ module _ (names : List Name) (goal : ℕ) (cells : List Cell) (t : ClauseView) (
   new_named : AreNamed (length names) new.cells
   new_named = subst (AreNamed (length names)) (sym pairs.cells) named
 
-  pub entered_none : t.body ≡ None → Enters names goal cells t old None new
+  pub entered_none : t.body ≡ None → EntersClause names goal cells t old None new
   entered_none e = record {
     unified = unified;
     vars = new_vars;
@@ -173,7 +173,7 @@ module _ (names : List Name) (goal : ℕ) (cells : List Cell) (t : ClauseView) (
     atoms = new_named;
   }
 
-  pub entered_some : (last : Contents) (b r : Ref) → AddsCells new last → Keeps new last → t.body ≡ Some b → shows names last.cells r.at ≡ renamed base (shows names cells b.at) → r.at < length last.cells → AreNamed (length names) last.cells → Enters names goal cells t old (Some r) last
+  pub entered_some : (last : Contents) (b r : Ref) → AddsCells new last → Keeps new last → t.body ≡ Some b → shows names last.cells r.at ≡ renamed base (shows names cells b.at) → r.at < length last.cells → AreNamed (length names) last.cells → EntersClause names goal cells t old (Some r) last
   entered_some last b r more kept e is lt all = record {
     unified = λ h. unified h ∙ ap Some (sym (kept.bindings names));
     vars = more.vars ∙ new_vars;
