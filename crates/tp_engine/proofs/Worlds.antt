@@ -1,3 +1,4 @@
 -- What acts on contents do to the world that they stand for.
 pub mod Items
 pub mod Stores
+pub mod Names
