@@ -2,3 +2,4 @@ pub mod ListsLinked
 mod Raised
 pub mod HeadsMet
 pub mod Worlds
+pub mod Program
