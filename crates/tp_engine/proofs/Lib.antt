@@ -3,3 +3,4 @@ mod Raised
 pub mod HeadsMet
 pub mod Worlds
 pub mod Program
+pub mod Start
