@@ -4,3 +4,4 @@ pub mod HeadsMet
 pub mod Worlds
 pub mod Program
 pub mod Start
+pub mod Rewound
