@@ -3,4 +3,6 @@ mod Raised
 pub mod HeadsMet
 pub mod Worlds
 pub mod Program
+pub mod Start
+pub mod Rewound
 pub mod Step

@@ -62,6 +62,8 @@ impl<'a> Machine<'a> {
         ensures none { IfOk result (λ found.
             IfNone found (body (goal_term atoms goal.now) ≡ None)) }
     {
+        // Its contract says what holds of every base.
+        let _cells = base.cells();
         let Some(state) = State::start(alloc, goal)? else {
             return Ok(None);
         };
