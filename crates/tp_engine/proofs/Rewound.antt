@@ -97,6 +97,7 @@ module _ (m : Machine) (rest : Vec Choice Global) (c : Choice) (is : IsMachine m
         machine = back_machine;
         goes_on = fits.1.next;
         open_ = record { below = omega arith; own = stack.0.own; some = stack.0.some; next = stack.0.next };
+        worlds = hold.choices.0;
       },
       stack.0.below,
     );

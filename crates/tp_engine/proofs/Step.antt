@@ -5,3 +5,4 @@ pub mod Control
 pub mod Items
 pub mod Schedule
 pub mod Raise
+pub mod Clauses

@@ -2,14 +2,16 @@
 use Rattle.std.specs.Prelude.{◌≡◌, ℕ, ◌+◌, ◌<◌, ◌^◌, ◌-◌, List, ◌∷◌, length, All}
 use Rattle.tp_terms.specs.Names.{IsTable, Grows}
 use Rattle.tp_meaning.specs.World.{World}
-use Rattle.tp_meaning.specs.Machine.{with_choice}
+use Rattle.tp_meaning.specs.Machine.{IsChoice, with_choice}
+use Rattle.tp_meaning.specs.Step.{searched}
+use Rattle.tp_meaning.proofs.Holds.{ChoiceHolds, Stands}
 use Rattle.tp_engine.specs.declared.machine.Alt.{Alt}
 use Rattle.tp_engine.specs.declared.machine.Alt.TheVariants.{Clause}
 use Rattle.tp_engine.specs.declared.machine.Machine.{Machine}
 use Rattle.tp_engine.specs.State.{plain_of}
 use Rattle.tp_engine.specs.Stands.{PlainStands}
 use Rattle.tp_engine.specs.Untried.{untried}
-use Rattle.tp_engine.specs.Machine.{ChoiceFits, GoesOn, IsMachine, base_in, choices_of, world_in}
+use Rattle.tp_engine.specs.Machine.{ChoiceFits, GoesOn, IsMachine, base_in, choices_of, open_at, world_in}
 
 -- what is next in the machine's world
 abbrev pub untried_in : Machine → Alt → List World
@@ -50,4 +52,6 @@ pub record Enters (old : Machine) (place : ℕ) (new : Machine) : Type 0 where
 pub record Returns (m : Machine) (next : Alt) : Type 0 where
   pub machine : IsMachine m
   pub goes_on : GoesOn m.atoms (base_in m) (plain_of m.state) next
+  pub open_ : IsChoice (searched (base_in m)) (m.stamp + 1) (open_at (base_in m) (world_in m) m.stamp next)
+  pub worlds : ChoiceHolds (Stands m.goal.now.vars) (open_at (base_in m) (world_in m) m.stamp next)
   pub few : m.stamp < 2 ^ 64 - 1

@@ -14,7 +14,7 @@ use Rattle.tp_meaning.specs.Machine.{IsChoice, stepped, rewound, resumed}
 use Rattle.tp_meaning.specs.Step.{searched}
 use Rattle.tp_meaning.proofs.Stack.{HasStack}
 use Rattle.tp_meaning.specs.Valid.{Valid}
-use Rattle.tp_meaning.proofs.Holds.{Holds, Stands}
+use Rattle.tp_meaning.proofs.Holds.{Holds, ChoiceHolds, Stands}
 use Rattle.tp_store.specs.Contents.{Contents, subst_of, seen}
 use Rattle.tp_clauses.specs.Contents.{IsBase, base_of}
 use Rattle.tp_engine.specs.declared.frames.Item.{Item}
@@ -150,6 +150,7 @@ pub record IsBack (m : Machine) : Type 0 where
   pub machine : IsMachine (record m { waiting = None })
   pub goes_on : GoesOn m.atoms (base_in m) (plain_of m.state) next
   pub open_ : IsChoice (searched (base_in m)) (m.stamp + 1) (open_at (base_in m) (world_in m) m.stamp next)
+  pub worlds : ChoiceHolds (Stands m.goal.now.vars) (open_at (base_in m) (world_in m) m.stamp next)
 
 -- a machine at the start of the goal, which has a body
 pub record IsBegun (m : Machine) : Type 0 where

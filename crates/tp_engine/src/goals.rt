@@ -72,7 +72,7 @@ impl<'a> Machine<'a> {
         requires cause { IsCause self.old task cause }
         ensures { IfOk result (Steps self.old self.new) }
     {
-        let process = self.state.procs[task.process].name;
+        let process = self.state.name_of(task.process);
         let place = raised(&mut self.state.store, cause, process)?;
         Ok(Stepped::Raised(place))
     }

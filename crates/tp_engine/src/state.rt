@@ -21,7 +21,7 @@ use tp_history::Events;
 use tp_parse::ReadTerm;
 use tp_store::Store;
 use tp_terms::symbols::MAIN;
-use tp_terms::{Event, EventKind, ItemId, Limit, NoMemory, Proc, ProcStatus, Ref, Slot};
+use tp_terms::{AtomId, Event, EventKind, ItemId, Limit, NoMemory, Proc, ProcStatus, Ref, Slot};
 
 /// The contents of one world. `plain_of` of specs/State.antt is what they stand for.
 #[derive(Drop)]
@@ -296,6 +296,14 @@ impl State {
         let slot = self.slots.remove(0);
         self.clock = slot.time;
         slot.pid
+    }
+
+    /// The name of a process.
+    pub fn name_of(&self, pid: usize) -> AtomId
+        requires { pid < length self.now.procs.items }
+        ensures { (q : Proc) → slice_get self.now.procs.items pid ≡ Some q → result ≡ q.name }
+    {
+        self.procs[pid].name
     }
 
     /// The time of the first entry of the calendar.

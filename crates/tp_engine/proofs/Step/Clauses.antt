@@ -180,12 +180,12 @@ module _ (m : Machine) (t : Task) (c : Call) (h : Calls m t c None) where
   none_untried n e = untried_is n ∙ found_none (hits m.atoms m.state.store t.goal.at) (try_clause turn goal) hits-try n (drop n (clauses_of m c)) e
 
   -- the next clause that has one
-  pub record Next (n k : ℕ) : Type 0 where
+  pub record NextHit (n k : ℕ) : Type 0 where
     pub hit : Hits m t c k
     pub same : untried_in m (alt.Clause n) ≡ untried_in m (alt.Clause k)
     pub left : 0 < length (untried_in m (alt.Clause k))
 
-  pub next_untried : (n k : ℕ) → found_from m t c n ≡ Some k → Next n k
+  pub next_untried : (n k : ℕ) → found_from m t c n ≡ Some k → NextHit n k
   next_untried n k e =
       let found = found_some (hits m.atoms m.state.store t.goal.at) (try_clause turn goal) hits-try n k (drop n (clauses_of m c)) e in
       let up : n ≤ k = found.later in

@@ -1,18 +1,24 @@
 -- Steps of control goals.
-use Rattle.std.proofs.Common.{◌≡◌, ℕ, zero, suc, ◌+◌, ◌<◌, ◌≤◌, List, [], ◌∷◌, map, length, Option, Some, refl, ap, sym, subst, ◌∙◌, arith}
+use Rattle.std.proofs.Common.{◌≡◌, ℕ, zero, suc, ◌+◌, ◌<◌, ◌≤◌, List, [], ◌∷◌, map, length, Option, Some, Err, refl, ap, sym, subst, ◌∙◌, arith}
 use Rattle.tp_terms.specs.declared.cells.Ref.{Ref}
-use Rattle.tp_terms.specs.Term.{Name, Term, Terms, More, all_replaced}
+use Rattle.tp_terms.specs.Term.{Name, Term, Terms, More, all_replaced, count_of}
 use Rattle.tp_terms.specs.Shown.{name_at, args_at, shows}
 use Rattle.tp_terms.proofs.NameLemmas.{Grows-same}
 use Rattle.tp_meaning.specs.Control.{arg}
+use Rattle.tp_meaning.specs.declared.goals.GoalKind.{GoalKind}
 use Rattle.tp_meaning.specs.declared.goals.GoalKind.TheVariants.{Control}
+use Rattle.tp_meaning.specs.declared.goals.GoalKind.TheVariants as kind
+use Rattle.tp_meaning.specs.declared.goals.ControlGoal.{ControlGoal}
+use Rattle.tp_meaning.specs.Goals.{goal_kind}
+use Rattle.tp_meaning.specs.Checks.{unknown}
+use Rattle.tp_meaning.specs.Clauses.{Base}
 use Rattle.tp_meaning.specs.declared.goals.ControlGoal.TheVariants as control
 use Rattle.tp_meaning.specs.World as world
 use Rattle.tp_meaning.specs.World.{World, with_items, stamped}
-use Rattle.tp_meaning.specs.Turn.{Gives, going, one}
+use Rattle.tp_meaning.specs.Turn.{Turn, Gives, going, one}
 use Rattle.tp_meaning.specs.Search.{Dead}
 use Rattle.tp_meaning.specs.declared.DeadCause.TheVariants.{Failed}
-use Rattle.tp_meaning.specs.Step.{step}
+use Rattle.tp_meaning.specs.Step.{step, goal_by}
 use Rattle.tp_meaning.specs.Machine as machine
 use Rattle.tp_meaning.proofs.OwnGoals.Counts.{fewest-fits}
 use Rattle.tp_store.specs.Contents.{Contents, subst_of, seen}
@@ -29,10 +35,10 @@ use Rattle.tp_engine.specs.Plain.{Plain, item_of, items_of, world_of}
 use Rattle.tp_engine.specs.Stands.{PlainStands, ItemStands}
 use Rattle.tp_engine.specs.Acts.{pushed, resting}
 use Rattle.tp_engine.specs.Machine.{IsMachine, Steps, base_in, world_in}
-use Rattle.tp_engine.specs.Meets.{Calls, HasFirst, args_seen}
+use Rattle.tp_engine.specs.Meets.{Calls, HasFirst, IsUnknown, args_seen}
 use Rattle.tp_engine.specs.Goes.{Goes}
 use Rattle.tp_engine.proofs.Worlds.Items.{OtherItems, other-stands, other-world, other-rest, other-push, pushed-items}
-use Rattle.tp_engine.proofs.Step.First.{call-gives, rest_in, turn_in}
+use Rattle.tp_engine.proofs.Step.First.{call-gives, count-seen, rest_in, turn_in}
 use Rattle.tp_engine.proofs.Step.Parts.{to_one, to_none}
 
 -- the machine goes on with other items
@@ -102,3 +108,34 @@ module _ (m : Machine) (t : Task) (c : Call) (is : IsMachine m) where
       ∙ ap (λ x. one (going (turn_in m t.process t.rest) (world.Goal x t.barrier ∷ world.Goal (arg 1 ts) t.barrier ∷ rest_in m t.rest))) first_is
       ∙ ap (λ x. one (going (turn_in m t.process t.rest) (world.Goal (seen m.atoms m.state.store c.first.at) t.barrier ∷ world.Goal x t.barrier ∷ rest_in m t.rest))) second_is
       ∙ ap one (sym (other-to m s' (m.stamp + 1) t.process items is o refl h.meets.running listed)))
+
+-- a goal of the language that isn't there yet is unknown
+unknown-control : (base : Base) (w : Turn) (b : ℕ) (f : Name) (ts : Terms) (g : ControlGoal) → (g ≡ control.True → ⊥) → (g ≡ control.Fail → ⊥) → (g ≡ control.Conjunction → ⊥) → goal_by base w b f ts (Some (Control g)) ≡ Err (unknown f (count_of ts))
+unknown-control base w b f ts control.True x y z = absurd (x refl)
+unknown-control base w b f ts control.Fail x y z = absurd (y refl)
+unknown-control base w b f ts control.Conjunction x y z = absurd (z refl)
+unknown-control base w b f ts _ x y z = refl
+
+pub is_unknown : (m : Machine) (t : Task) (c : Call) (k : GoalKind) → Calls m t c (Some k) → ((w : Turn) (b : ℕ) (f : Name) (ts : Terms) → goal_by (base_in m) w b f ts (Some k) ≡ Err (unknown f (count_of ts))) → IsUnknown m t c.name.at c.count
+is_unknown m t c k h e =
+    let number = count-seen m.atoms m.state.store c.first.at c.count in
+    let f = name_at m.atoms c.name.at in
+    let args = args_seen m.atoms m.state.store c.first.at c.count in
+    record {
+      named = h.call.name;
+      args = args;
+      is = h.call.is;
+      number = number;
+      unknown = λ w b. ap (goal_by (base_in m) w b f args) (ap (goal_kind f) number ∙ h.kind) ∙ e w b f args;
+    }
+
+pub not_there : (m : Machine) (t : Task) (c : Call) (g : ControlGoal) → Calls m t c (Some (Control g)) → (g ≡ control.True → ⊥) → (g ≡ control.Fail → ⊥) → (g ≡ control.Conjunction → ⊥) → IsUnknown m t c.name.at c.count
+not_there m t c g h x y z = is_unknown m t c (Control g) h (λ w b f ts. unknown-control (base_in m) w b f ts g x y z)
+
+pub not_control : (m : Machine) (t : Task) (c : Call) (k : GoalKind) → Calls m t c (Some k) → ((g : ControlGoal) → k ≡ Control g → ⊥) → IsUnknown m t c.name.at c.count
+not_control m t c k h x = is_unknown m t c k h (go k x)
+  where
+    go : (k : GoalKind) → ((g : ControlGoal) → k ≡ Control g → ⊥) → (w : Turn) (b : ℕ) (f : Name) (ts : Terms) → goal_by (base_in m) w b f ts (Some k) ≡ Err (unknown f (count_of ts))
+    go (Control g) x w b f ts = absurd (x g refl)
+    go (kind.Process g) x w b f ts = refl
+    go (kind.BuiltIn g) x w b f ts = refl

@@ -1,5 +1,5 @@
 -- Steps of the other items: the end of a process, a commit, and a condition that is tried again.
-use Rattle.std.proofs.Common.{◌≡◌, ℕ, zero, suc, false, ◌+◌, ◌<◌, ◌≤◌, List, [], ◌∷◌, map, length, take, Option, Some, None, All, slice_get, refl, ap, sym, subst, ◌∙◌, arith}
+use Rattle.std.proofs.Common.{◌≡◌, ℕ, zero, suc, false, ◌+◌, ◌<◌, ◌≤◌, List, [], ◌∷◌, map, length, take, Option, Some, None, All, slice_get, IfSome, refl, ap, sym, subst, ◌∙◌, arith}
 use Rattle.std.proofs.lemmas.List.{length-set}
 use Rattle.std.specs.List.{AllByRecursion}
 use Rattle.tp_terms.specs.declared.ProcStatus.{ProcStatus}
@@ -9,6 +9,7 @@ use Rattle.tp_terms.specs.declared.world.ItemId.{ItemId}
 use Rattle.tp_terms.specs.declared.world.Proc.{Proc}
 use Rattle.tp_terms.specs.declared.world.EventKind.TheVariants as event
 use Rattle.tp_terms.proofs.NameLemmas.{Grows-same}
+use Rattle.tp_terms.specs.Names.{IsTable}
 use Rattle.tp_terms.specs.Term.{Name, Term}
 use Rattle.tp_meaning.specs.World as world
 use Rattle.tp_meaning.specs.World.{World, with_items, with_status, stamped, at_place}
@@ -31,13 +32,13 @@ use Rattle.tp_engine.specs.Plain.{Plain, item_of, items_of, world_of}
 use Rattle.tp_engine.specs.Stands.{PlainStands}
 use Rattle.tp_engine.specs.Acts.{pushed, resting, noted, left, mark_others}
 use Rattle.tp_engine.specs.Untried.{untried, untried_by, second_of}
-use Rattle.tp_engine.specs.Machine.{IsMachine, Steps, base_in, world_in, items_in, choices_of, GoesOn, IsAgain}
+use Rattle.tp_engine.specs.Machine.{IsMachine, Steps, Resumes, base_in, world_in, items_in, choices_of, GoesOn, IsAgain}
 use Rattle.tp_engine.specs.Meets.{Runs, HasFirst}
-use Rattle.tp_engine.specs.Goes.{Goes, MayKeep, IsKept, untried_in}
+use Rattle.tp_engine.specs.Goes.{Goes, KeepsWorlds, MayKeep, IsKept, Returns, untried_in}
 use Rattle.tp_engine.proofs.Worlds.Items.{OtherItems, other-stands, other-world, other-rest, other-push, pushed-items, list_stands}
 use Rattle.tp_engine.proofs.Worlds.Procs.{left-stands, left-world, noted-stands, noted-world, marked-stands, marked-world}
 use Rattle.tp_engine.proofs.Step.First.{standing, first-step, item-step, process_there, there, rest_in, turn_in, items-there}
-use Rattle.tp_engine.proofs.Step.Parts.{to_one, to_branch, to_commit}
+use Rattle.tp_engine.proofs.Step.Parts.{to_one, to_branch, to_commit, resumes}
 use Rattle.tp_engine.proofs.Step.Control.{other-goes, other-to}
 
 -- ---- the end
@@ -86,9 +87,6 @@ commits m new r c n rest is h same stamp e cut first =
 -- ---- another try
 
 module _ (m : Machine) (r : ℕ) (g : Ref) (rest : Option ItemId) (is : IsMachine m) (h : HasFirst m r (Retry g) rest) where
-  goal : Term
-  goal = seen m.atoms m.state.store g.at
-
   again-step : step (base_in m) (world_in m) ≡ await_again (turn_in m r rest) (seen m.atoms m.state.store g.at)
   again-step = item-step m r (Retry g) rest h
 
@@ -110,34 +108,44 @@ module _ (m : Machine) (r : ℕ) (g : Ref) (rest : Option ItemId) (is : IsMachin
   }
 
   -- the condition is tried, and a choice was kept
-  pub tries : (mid : Machine) (s1 s2 : State) → IsKept m Second mid → plain_of s1 ≡ pushed (Commit m.stamp) (resting rest (plain_of mid.state)) → plain_of s2 ≡ pushed (Goal g (m.stamp + 1)) (plain_of s1) → Steps m (record mid { state = s2; stamp = m.stamp + 1 }) answer.Went
-  tries mid s1 s2 k e1 e2 =
+  tries_at : (mid : Machine) (s1 s2 : State) (d : ℕ) → d ≡ m.stamp → IsKept m Second mid → plain_of s1 ≡ pushed (Commit d) (resting rest (plain_of mid.state)) → plain_of s2 ≡ pushed (Goal g (d + 1)) (plain_of s1) → Steps m (record mid { state = s2; stamp = d + 1 }) answer.Went
+  tries_at mid s1 s2 d ed k e1 e2 =
       let p = plain_of m.state in
       let q = resting rest p in
       let o1 = other-rest m.atoms p rest h.rest in
-      let o2 = other-push m.atoms p q (Commit m.stamp) is.stands o1 tt in
-      let o3 = other-push m.atoms p (pushed (Commit m.stamp) q) (Goal g (m.stamp + 1)) is.stands o2 h.stands in
-      let e3 : plain_of s2 ≡ pushed (Goal g (m.stamp + 1)) (pushed (Commit m.stamp) (resting rest (plain_of m.state))) = e2 ∙ ap (pushed (Goal g (m.stamp + 1))) e1 ∙ ap (λ (x : Plain). pushed (Goal g (m.stamp + 1)) (pushed (Commit m.stamp) (resting rest x))) k.plain in
+      let o2 = other-push m.atoms p q (Commit d) is.stands o1 tt in
+      let o3 = other-push m.atoms p (pushed (Commit d) q) (Goal g (d + 1)) is.stands o2 h.stands in
+      let e3 : plain_of s2 ≡ pushed (Goal g (d + 1)) (pushed (Commit d) (resting rest (plain_of m.state))) = e2 ∙ ap (pushed (Goal g (d + 1))) e1 ∙ ap (λ (x : Plain). pushed (Goal g (d + 1)) (pushed (Commit d) (resting rest x))) k.plain in
       let o = subst (OtherItems m.atoms p) (sym e3) o3 in
-      let items = Goal g (m.stamp + 1) ∷ Commit m.stamp ∷ items_at m.state.frames rest in
+      let items = Goal g (d + 1) ∷ Commit d ∷ items_at m.state.frames rest in
       let listed : items_at (plain_of s2).frames (plain_of s2).items ≡ items =
           ap (λ (x : Plain). items_at x.frames x.items) e3
-          ∙ pushed-items (Goal g (m.stamp + 1)) (pushed (Commit m.stamp) q)
-          ∙ ap (λ l. Goal g (m.stamp + 1) ∷ l) (pushed-items (Commit m.stamp) q) in
+          ∙ pushed-items (Goal g (d + 1)) (pushed (Commit d) q)
+          ∙ ap (λ l. Goal g (d + 1) ∷ l) (pushed-items (Commit d) q) in
       let atoms : mid.atoms ≡ m.atoms = ap (λ (x : Machine). x.atoms) k.same in
-      to_branch m mid (record mid { state = s2; stamp = m.stamp + 1 }) Second is k
+      let x = seen m.atoms m.state.store g.at in
+      let t = turn_in m r rest in
+      to_branch m mid (record mid { state = s2; stamp = d + 1 }) Second is k
       (record {
         same = refl;
         names = Grows-same mid.atoms;
-        table = subst Rattle.tp_terms.specs.Names.IsTable (sym atoms) is.program.table;
+        table = subst IsTable (sym atoms) is.program.table;
         stands = subst (λ (ns : List Name). PlainStands ns (plain_of s2)) (sym atoms) (other-stands m.atoms p (plain_of s2) is.stands o);
-        stamp = ap (λ (x : Machine). x.stamp + 1) (sym k.same);
+        stamp = ap (λ n. n + 1) ed ∙ ap (λ (y : Machine). y.stamp + 1) (sym k.same);
       })
       (again-step
-      ∙ ap (λ ws. search.Branch (tried (turn_in m r rest) goal) ws) (sym second-left)
+      ∙ ap (λ ws. search.Branch (tried t x) ws) (sym second-left)
+      ∙ ap (λ n. search.Branch (going t (world.Goal x (n + 1) ∷ world.Commit n ∷ rest_in m rest)) (untried_in m Second)) (sym ed)
       ∙ ap (λ v. search.Branch v (untried_in m Second)) (sym (
-        ap (λ (ns : List Name). world_of ns (plain_of s2) (m.stamp + 1)) atoms
-        ∙ other-to m s2 (m.stamp + 1) r items is o refl h.running listed)))
+        ap (λ (ns : List Name). world_of ns (plain_of s2) (d + 1)) atoms
+        ∙ other-to m s2 (d + 1) r items is o (ap (λ n. n + 1) ed) h.running listed)))
+
+  pub tries : (mid : Machine) (s1 s2 : State) → IsKept m Second mid → plain_of s1 ≡ pushed (Commit mid.stamp) (resting rest (plain_of mid.state)) → plain_of s2 ≡ pushed (Goal g (mid.stamp + 1)) (plain_of s1) → Steps m (record mid { state = s2; stamp = mid.stamp + 1 }) answer.Went
+  tries mid s1 s2 k e1 e2 = tries_at mid s1 s2 mid.stamp (ap (λ (y : Machine). y.stamp) k.same) k e1 e2
+
+  -- the items behind it are there
+  pub rest_there : (mid : Machine) → IsKept m Second mid → IfSome rest (λ i. i.at < length mid.state.frames)
+  rest_there mid k = subst (λ (x : Plain). IfSome rest (λ i. i.at < length x.frames)) (sym k.plain) h.rest
 
 -- the process goes on waiting
 pub waits_again : (m : Machine) (s : State) (a : IsAgain (plain_of m.state)) → IsMachine m
@@ -169,3 +177,12 @@ waits_again m s a is e =
     kept_items [] r is e = refl
     kept_items (x ∷ xs) zero is e = ap (λ l. record x { items = l } ∷ xs) (sym e)
     kept_items (x ∷ xs) (suc r) is e = ap (λ ys. x ∷ ys) (kept_items xs r is e)
+
+-- the machine goes on so
+pub goes_on_waiting : (m : Machine) (s : State) (r : ℕ) → Returns m Second → m.state.running ≡ Some r
+    → ((q : Proc) → slice_get m.state.procs.items r ≡ Some q → plain_of s ≡ left r q (Parked false) (plain_of m.state)) → Resumes (record m { waiting = Some Second }) (record m { state = s; stamp = m.stamp + 1 })
+goes_on_waiting m s r back run e =
+    let a = back.goes_on in
+    let same : r ≡ a.process = (let z : Some r ≡ Some a.process = sym run ∙ a.running in cc) in
+    let w = waits_again m s a back.machine (subst (λ n. (q : Proc) → slice_get m.state.procs.items n ≡ Some q → plain_of s ≡ left n q (Parked false) (plain_of m.state)) same e) in
+    resumes m m (record m { state = s; stamp = m.stamp + 1 }) Second [] back (record { same = refl; plain = refl; fits = back.machine.choices; kept = refl }) w.0 w.1

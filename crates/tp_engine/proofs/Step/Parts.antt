@@ -1,6 +1,8 @@
 -- From a world that the machine goes on to, to a step of the machine.
-use Rattle.std.proofs.Common.{◌≡◌, ℕ, ◌+◌, ◌<◌, ◌≤◌, List, [], ◌∷◌, ◌++◌, map, length, take, reverse, None, All, Vec, Global, refl, ap, sym, subst, ◌∙◌, arith}
-use Rattle.std.proofs.lemmas.List.Elements.{All-take}
+use Rattle.std.proofs.Common.{◌≡◌, ℕ, ◌+◌, ◌<◌, ◌≤◌, List, [], ◌∷◌, ◌++◌, map, length, take, reverse, Some, None, All, Vec, Global, refl, ap, sym, subst, ◌∙◌, arith}
+use Rattle.std.proofs.lemmas.List.{reverse-append}
+use Rattle.std.proofs.lemmas.List.Elements.{All-take, All-push}
+use Rattle.std.specs.List.{AllByRecursion}
 use Rattle.tp_terms.specs.declared.cells.Ref.{Ref}
 use Rattle.tp_terms.specs.declared.text.Named.{Named}
 use Rattle.tp_terms.specs.Term.{Name, Term}
@@ -15,14 +17,15 @@ use Rattle.tp_meaning.specs.Search as search
 use Rattle.tp_meaning.specs.Step.{step, searched}
 use Rattle.tp_meaning.specs.Machine as machine
 use Rattle.tp_meaning.specs.Machine.{State, Went, stepped, stepped_by, with_choice, cut_from}
-use Rattle.tp_meaning.proofs.Stack.{HasStack, stepped-stack}
-use Rattle.tp_meaning.proofs.Holds.{Holds, Stands, stepped-stands, step-rises}
+use Rattle.tp_meaning.proofs.Stack.{HasStack, stepped-stack, stack_with}
+use Rattle.tp_meaning.proofs.Holds.{Holds, ChoiceHolds, Stands, stepped-stands, step-rises}
 use Rattle.tp_parse.specs.declared.read.ReadTerm.{ReadTerm}
 use Rattle.tp_clauses.specs.Contents as kept
 use Rattle.tp_clauses.specs.Contents.{IsBase, base_of}
 use Rattle.tp_engine.specs.declared.machine.Alt.{Alt}
 use Rattle.tp_engine.specs.declared.machine.Choice.{Choice}
 use Rattle.tp_engine.specs.declared.machine.Machine.{Machine}
+use Rattle.tp_engine.specs.declared.state.State as code
 use Rattle.tp_engine.specs.declared.phase.Stepped.{Stepped}
 use Rattle.tp_engine.specs.declared.phase.Stepped.TheVariants as answer
 use Rattle.tp_store.specs.Contents.{seen}
@@ -30,8 +33,8 @@ use Rattle.tp_engine.specs.State.{plain_of}
 use Rattle.tp_engine.specs.Plain.{Plain, world_of}
 use Rattle.tp_engine.specs.Stands.{PlainStands}
 use Rattle.tp_engine.specs.Program.{GoalFits, goal_term}
-use Rattle.tp_engine.specs.Machine.{IsProgram, SameProgram, ChoiceFits, waiting_of, IsMachine, Steps, ErrorStands, base_in, world_in, open_in, state_in, choices_of, answer_by}
-use Rattle.tp_engine.specs.Goes.{IsKept, Goes, untried_in}
+use Rattle.tp_engine.specs.Machine.{IsProgram, SameProgram, ChoiceFits, GoesOn, choice_of, open_at, waiting_of, IsMachine, Steps, Resumes, ErrorStands, base_in, world_in, open_in, state_in, choices_of, answer_by}
+use Rattle.tp_engine.specs.Goes.{KeepsWorlds, IsKept, MayKeep, Goes, Returns, untried_in}
 use Rattle.tp_engine.proofs.Program.{base_fits}
 use Rattle.tp_engine.proofs.Worlds.Names.{base-later, choices-later, choice-later}
 
@@ -192,3 +195,72 @@ to_raise m new place e is same stands w shown within h = steps m new (answer.Rai
   where
     atoms : new.atoms ≡ m.atoms
     atoms = ap (λ (q : Machine). q.atoms) same
+
+-- the machine goes on from the choice that it went back to, after a choice of the worlds that are left was kept
+pub resumes : (m mid new : Machine) (next : Alt) (more : List World) → Returns m next → KeepsWorlds m more mid → Goes mid new → untried_in m next ≡ world_in new ∷ more → Resumes (record m { waiting = Some next }) new
+resumes m mid new next more back k g e =
+    let is = back.machine in
+    let x = searched (base_in m) in
+    let w = world_in m in
+    let cs = choices_of m.atoms (base_in m) m.choices.items in
+    let eb : new.base.now ≡ m.base.now = ap (λ (q : Machine). q.base.now) g.same ∙ ap (λ (q : Machine). q.base.now) k.same in
+    let eg : new.goal.now ≡ m.goal.now = ap (λ (q : Machine). q.goal.now) g.same ∙ ap (λ (q : Machine). q.goal.now) k.same in
+    let grows : Grows m.atoms new.atoms = subst (λ (ns : List Name). Grows ns new.atoms) (ap (λ (q : Machine). q.atoms) k.same) g.names in
+    let waiting : new.waiting ≡ None = ap (λ (q : Machine). q.waiting) g.same ∙ ap (λ (q : Machine). q.waiting) k.same ∙ is.going in
+    let same : base_in new ≡ base_in m = meaning m new is.program eb grows in
+    let fits : All (ChoiceFits m.atoms (base_in m)) new.choices.items = subst (λ (ds : Vec Choice Global). All (ChoiceFits m.atoms (base_in m)) ds.items) (sym (ap (λ (q : Machine). q.choices) g.same)) k.fits in
+    let later = choices-later m.atoms new.atoms grows (base_in m) new.choices.items fits in
+    let kept : choices_of m.atoms (base_in m) new.choices.items ≡ with_choice m.stamp w more cs = ap (λ (ds : Vec Choice Global). choices_of m.atoms (base_in m) ds.items) (ap (λ (q : Machine). q.choices) g.same) ∙ k.kept in
+    let here : state_in new ≡ record { world = world_in new; choices = with_choice m.stamp w more cs } =
+        state_is new waiting ∙ ap (λ b. record { world = world_in new; choices = choices_of new.atoms b new.choices.items }) same ∙ ap (λ ds. record { world = world_in new; choices = ds }) (later ∙ kept) in
+    let old : state_in (record m { waiting = Some next }) ≡ record { world = w; choices = record { stamp = m.stamp; world = w; untried = world_in new ∷ more } ∷ cs } =
+        ap (λ ws. record { world = w; choices = record { stamp = m.stamp; world = w; untried = ws } ∷ cs }) e in
+    let resumed_is : state_in new ≡ machine.resumed (state_in (record m { waiting = Some next })) = here ∙ sym (ap machine.resumed old) in
+    let stamp : new.stamp ≡ m.stamp + 1 = g.stamp ∙ ap (λ (q : Machine). q.stamp + 1) k.same in
+    let these = subst (AllByRecursion (Stands m.goal.now.vars)) e back.worlds.1 in
+    let stamps = subst (AllByRecursion (λ (v : World). v.stamp ≡ m.stamp + 1)) e back.open_.next in
+    let rest : Holds (Stands m.goal.now.vars) (record { world = w; choices = cs }) = subst (Holds (Stands m.goal.now.vars)) (state_is m is.going) is.worlds in
+    let stack : HasStack x (record { world = w; choices = cs }) = subst (HasStack x) (state_is m is.going) is.stack in
+    record {
+      machine = record {
+        going = waiting;
+        program = program-later m new is.program eb eg grows g.table;
+        stands = g.stands;
+        choices = subst (λ b. All (ChoiceFits new.atoms b) new.choices.items) (sym same) (λ k' d lt. choice-later m.atoms new.atoms grows (base_in m) _ (fits k' d lt));
+        worlds = subst (λ (q : ReadTerm). Holds (Stands q.vars) (state_in new)) (sym eg) (subst (Holds (Stands m.goal.now.vars)) (sym here) (record {
+          world = these.0;
+          choices = with-hold m.goal.now.vars m.stamp w more cs is.worlds.world these.1 rest.choices;
+        }));
+        stack = subst (λ b. HasStack (searched b) (state_in new)) (sym same) (subst (HasStack x) (sym here)
+          (stack_with x m.stamp w (world_in new) more cs refl stamps.0 stamps.1 stack));
+      };
+      same = record { base = eb; goal = eg; names = grows };
+      meaning = same;
+      resumed = resumed_is;
+      bound = stamp;
+    }
+  where
+    with-hold : (n d : ℕ) (w : World) (more : List World) (cs : List (machine.Choice World)) → Stands n w → AllByRecursion (Stands n) more → AllByRecursion (ChoiceHolds (Stands n)) cs → AllByRecursion (ChoiceHolds (Stands n)) (with_choice d w more cs)
+    with-hold n d w [] cs p a h = h
+    with-hold n d w (v ∷ more) cs p a h = ((p, a), h)
+
+-- ---- a choice that is kept
+
+pub keeps : (m : Machine) (next : Alt) (s : code.State) (new : Vec Choice Global) → MayKeep m next → plain_of s ≡ plain_of m.state → new.items ≡ m.choices.items ++ record { stamp = m.stamp; state = s; next = next } ∷ [] → IsKept m next (record m { choices = new })
+keeps m next s new may e items =
+    let c : Choice = record { stamp = m.stamp; state = s; next = next } in
+    let P = ChoiceFits m.atoms (base_in m) in
+    let fits : ChoiceFits m.atoms (base_in m) c = record { stands = subst (PlainStands m.atoms) (sym e) may.stands; next = subst (λ (p : Plain). GoesOn m.atoms (base_in m) p next) (sym e) may.goes_on } in
+    let open_is : choice_of m.atoms (base_in m) c ≡ open_at (base_in m) (world_in m) m.stamp next = ap (λ (p : Plain). open_at (base_in m) (world_of m.atoms p m.stamp) m.stamp next) e in
+    record {
+      same = refl;
+      plain = refl;
+      fits = subst (All P) (sym items) (All-push P m.choices.items c may.choices fits);
+      kept = ap (choices_of m.atoms (base_in m)) items ∙ ap (map (choice_of m.atoms (base_in m))) (reverse-append m.choices.items (c ∷ []))
+          ∙ ap (λ k. k ∷ choices_of m.atoms (base_in m) m.choices.items) open_is
+          ∙ sym (with_left m.stamp (world_in m) (untried_in m next) (choices_of m.atoms (base_in m) m.choices.items) may.left);
+    }
+  where
+    with_left : (d : ℕ) (w : World) (ws : List World) (cs : List (machine.Choice World)) → 0 < length ws → with_choice d w ws cs ≡ record { stamp = d; world = w; untried = ws } ∷ cs
+    with_left d w [] cs lt = absurd (omega arith)
+    with_left d w (v ∷ ws) cs lt = refl

@@ -6,7 +6,8 @@ use Rattle.tp_terms.specs.declared.cells.Ref.{Ref}
 use Rattle.tp_terms.specs.declared.cells.AtomId.{AtomId}
 use Rattle.tp_terms.specs.declared.world.Proc.{Proc}
 use Rattle.tp_terms.specs.Term.{Name, Term, Var, Int}
-use Rattle.tp_terms.specs.Shown.{name_at, shows}
+use Rattle.tp_terms.specs.Names.{IsTable}
+use Rattle.tp_terms.specs.Shown.{name_at, shows, AreNamed}
 use Rattle.tp_meaning.specs.Subst.{apply}
 use Rattle.tp_meaning.specs.Checks.{error}
 use Rattle.tp_meaning.specs.World as world
@@ -88,3 +89,14 @@ module _ (m : Machine) (t : Task) (is : IsMachine m) (h : Meets m t) where
       (ap (apply (subst_of names s.store)) b.shown ∙ closed why (subst_of names s.store) name)
       (omega (arith, b.last))
       (raises-by why c ∙ ap (λ n. search.Raise (error (kind_term names why) n)) (name-is q e))
+
+  -- with the name of the running process, as it was looked up
+  pub raises_with : (s : State) (place : Ref) (why : Cause) (process : AtomId) → IsCause m t why → ((q : Proc) → slice_get m.state.procs.items t.process ≡ Some q → process ≡ q.name)
+      → ((names : List Name) → IsTable names → AreNamed (length names) m.state.store.cells → CauseStands names why → process.at < length names → Built names m.state.store s.store place.at (error (kind_term names why) (name_at names process.at)))
+      → plain_of s ≡ record (plain_of m.state) { store = s.store } → Steps m (record m { state = s }) (answer.Raised place)
+  raises_with s place why process c named built same =
+      let q = there t.process m.state.procs.items (process_there m t.process h.standing h.running) in
+      let e : process ≡ q.0.name = named q.0 q.1 in
+      raises s place why q.0 c q.1 same
+      (subst (λ (a : AtomId). Built m.atoms m.state.store s.store place.at (error (kind_term m.atoms why) (name_at m.atoms a.at))) e
+        (built m.atoms is.program.table is.stands.atoms (cause_stands why c) (subst (λ (a : AtomId). a.at < length m.atoms) (sym e) (name_stands q.0 q.1))))

@@ -31,7 +31,7 @@ use Rattle.tp_engine.specs.declared.phase.Stepped.TheVariants as answer
 use Rattle.tp_engine.specs.State.{plain_of}
 use Rattle.tp_engine.specs.Plain.{Plain, items_of, process_of, with_running, processes_of, slot_of, world_of}
 use Rattle.tp_engine.specs.Stands.{PlainStands}
-use Rattle.tp_engine.specs.Acts.{ran, noted, begun, opened, is_marked, is_live, is_late}
+use Rattle.tp_engine.specs.Acts.{IsNextTime, ran, noted, begun, opened, is_marked, is_live, is_late}
 use Rattle.tp_engine.specs.Machine.{IsMachine, Steps, base_in, world_in}
 use Rattle.tp_engine.specs.Meets.{IsIdle, IsUnmarked, TakesEntry}
 use Rattle.tp_engine.proofs.Worlds.Procs.{ran-stands, ran-world, noted-stands, noted-world, begun-stands, begun-world}
@@ -153,10 +153,31 @@ set-there [] n y lt = absurd (omega arith)
 set-there (x ∷ xs) zero y lt = refl
 set-there (x ∷ xs) (suc n) y lt = set-there xs n y (omega arith)
 
+-- ---- the first entry
+
+pub no_entry : (xs : List Slot) (o : Option ℤ) → IsNextTime xs o → o ≡ None → xs ≡ []
+no_entry [] o h e = refl
+no_entry (x ∷ xs) o h e = absurd (cc)
+
+pub record Entry (xs : List Slot) (time : ℤ) : Type 0 where
+  pub entry : Slot
+  pub more : List Slot
+  pub is : xs ≡ entry ∷ more
+  pub at : {b : Bool} (qs : List Proc) (r : Bool) → r ≡ list_any (is_late time) qs → r ≡ b → list_any (is_late entry.time) qs ≡ b
+
+pub some_entry : (xs : List Slot) (o : Option ℤ) (time : ℤ) → IsNextTime xs o → o ≡ Some time → Entry xs time
+some_entry [] o time h e = absurd (cc)
+some_entry (x ∷ xs) o time h e =
+    let same : x.time ≡ time = cc in
+    record { entry = x; more = xs; is = refl; at = λ qs r er eb. ap (λ t. list_any (is_late t) qs) same ∙ sym er ∙ eb }
+
 -- the first entry is taken
 module _ (m : Machine) (h : TakesEntry m) where
-  pub entry_there : h.entry.pid < length m.state.procs.items
-  entry_there =
+  pub entry_first : 0 < length m.state.slots.items
+  entry_first = omega (arith, ap length h.slots)
+
+  there_is : h.entry.pid < length m.state.procs.items
+  there_is =
       let v = h.unmarked.idle.machine.worlds.world.valid in
       let fits = subst (λ es. AllByRecursion (SlotFits (length (world_in m).processes) m.state.clock m.state.insertion) (map slot_of es)) h.slots v.entries in
       let lt : h.entry.pid < length (world_in m).processes = fits.0.0 in
@@ -165,23 +186,32 @@ module _ (m : Machine) (h : TakesEntry m) where
   abbrev taken : Plain
   taken = record (plain_of m.state) { clock = h.entry.time; slots = h.more }
 
-  pub takes : (s1 s2 s3 : State) → plain_of s1 ≡ record (plain_of m.state) { clock = h.entry.time; slots = h.more }
+  module _ (s1 : State) (pid : ℕ) (at : pid ≡ h.entry.pid) (e1 : plain_of s1 ≡ record (plain_of m.state) { clock = h.entry.time; slots = h.more }) where
+    pub entry_there : pid < length s1.procs.items
+    entry_there = omega (arith, there_is, at, ap (λ (x : Plain). length x.procs) e1)
+
+    pub entry_kept : (s2 : State) → ((q : Proc) → slice_get s1.procs.items pid ≡ Some q → plain_of s2 ≡ ran pid q (plain_of s1)) → pid < length s2.procs.items
+    entry_kept s2 f2 =
+        let q = there pid s1.procs.items (entry_there) in
+        omega (arith, entry_there, ap (λ (x : Plain). length x.procs) (f2 q.0 q.1), length-set s1.procs.items pid (record q.0 { status = Running }))
+
+  takes_at : (s1 s2 s3 : State) → plain_of s1 ≡ record (plain_of m.state) { clock = h.entry.time; slots = h.more }
       → ((q : Proc) → slice_get s1.procs.items h.entry.pid ≡ Some q → plain_of s2 ≡ ran h.entry.pid q (plain_of s1))
       → ((q : Proc) → slice_get s2.procs.items h.entry.pid ≡ Some q → plain_of s3 ≡ opened h.entry.pid q (plain_of s2))
       → Steps m (record m { state = s3; stamp = m.stamp + 1 }) answer.Went
-  takes s1 s2 s3 e1 f2 f3 =
+  takes_at s1 s2 s3 e1 f2 f3 =
       let pid = h.entry.pid in
       let is = h.unmarked.idle.machine in
       let names = m.atoms in
-      let found = there pid m.state.procs.items (entry_there) in
+      let found = there pid m.state.procs.items (there_is) in
       let q = found.0 in
       let y : Proc = record q { status = Running } in
       let e2 : plain_of s2 ≡ ran pid q taken = f2 q (ap (λ (x : Plain). slice_get x.procs pid) e1 ∙ found.1) ∙ ap (ran pid q) e1 in
-      let there2 : slice_get s2.procs.items pid ≡ Some y = ap (λ (x : Plain). slice_get x.procs pid) e2 ∙ set-there m.state.procs.items pid y (entry_there) in
+      let there2 : slice_get s2.procs.items pid ≡ Some y = ap (λ (x : Plain). slice_get x.procs pid) e2 ∙ set-there m.state.procs.items pid y (there_is) in
       let e3 : plain_of s3 ≡ opened pid y (ran pid q taken) = f3 y there2 ∙ ap (opened pid y) e2 in
       let st1 : PlainStands names taken = record { store = is.stands.store; atoms = is.stands.atoms; lists = is.stands.lists; items = is.stands.items; procs = is.stands.procs; boxes = is.stands.boxes; events = is.stands.events } in
       let st2 = ran-stands names taken pid q st1 found.1 in
-      let opens = opens_to names (ran pid q taken) pid (m.stamp + 1) y st2 refl (set-there m.state.procs.items pid y (entry_there)) (omega (arith, entry_there, length-set m.state.procs.items pid y)) in
+      let opens = opens_to names (ran pid q taken) pid (m.stamp + 1) y st2 refl (set-there m.state.procs.items pid y (there_is)) (omega (arith, there_is, length-set m.state.procs.items pid y)) in
       let ran_is : world_of names (ran pid q taken) (m.stamp + 1) ≡ scheduler.with_running pid (record (stamped (world_in m)) { clock = h.entry.time; calendar = map slot_of h.more }) = ran-world names taken pid (m.stamp + 1) q h.unmarked.idle.idle found.1 in
       to_one m (record m { state = s3; stamp = m.stamp + 1 }) is
       (record { same = refl; names = Grows-same names; table = is.program.table; stands = subst (PlainStands names) (sym e3) opens.0; stamp = refl })
@@ -204,3 +234,12 @@ module _ (m : Machine) (h : TakesEntry m) where
                 begun-stands names (noted pid event.Start p) pid q st e,
                 begun-world names (noted pid event.Start p) pid n q r e ∙ ap (world.with_process pid (λ (x : world.Process). record x { started = true })) (noted-world names p pid n event.Start),
               )
+
+  pub takes : (s1 s2 s3 : State) (pid' : ℕ) → pid' ≡ h.entry.pid → plain_of s1 ≡ record (plain_of m.state) { clock = h.entry.time; slots = h.more }
+      → ((q : Proc) → slice_get s1.procs.items pid' ≡ Some q → plain_of s2 ≡ ran pid' q (plain_of s1))
+      → ((q : Proc) → slice_get s2.procs.items pid' ≡ Some q → plain_of s3 ≡ opened pid' q (plain_of s2))
+      → Steps m (record m { state = s3; stamp = m.stamp + 1 }) answer.Went
+  takes s1 s2 s3 pid' at e1 g2 g3 =
+      takes_at s1 s2 s3 e1
+      (subst (λ n. (q : Proc) → slice_get s1.procs.items n ≡ Some q → plain_of s2 ≡ ran n q (plain_of s1)) at g2)
+      (subst (λ n. (q : Proc) → slice_get s2.procs.items n ≡ Some q → plain_of s3 ≡ opened n q (plain_of s2)) at g3)

@@ -3,4 +3,4 @@ use Rattle.tp_engine.proofs.Step.Control.{succeeds}
 use Rattle.tp_engine.proofs.machine.Machine.succeed.Goals as goal
 
 pub returns : goal.returns
-returns c = succeeds c.args.self.now c.args.task c.args._call (record c.args.self.now.state { items = c.args.task.rest }) c.requires refl
+returns c = succeeds c.args.self.now c.args.task c.args._call c.requires.machine (record c.args.self.now.state { items = c.args.task.rest }) c.requires.call refl
