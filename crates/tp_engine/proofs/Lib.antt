@@ -5,3 +5,4 @@ pub mod Worlds
 pub mod Program
 pub mod Start
 pub mod Rewound
+pub mod Marked
