@@ -13,8 +13,8 @@ loop-at-preserved c =
     let lt : k < length qs = omega (arith, c.len-at-end.ensures) in
     elim c.if-at-pid.branch [
       | then-at-pid w ↦
-      ap (λ (v : Vec Proc Global). v.items) w.procs-is ∙ ap (slice_set now k) w.marked.ensures
-      ∙ marks-one n k qs now c.loop-at.invariant lt w.index.result.now (λ e. w.if-at-pid.true (sym e)) w.index.ensures
+          ap (λ (v : Vec Proc Global). v.items) w.procs-is ∙ ap (slice_set now k) w.marked.ensures
+          ∙ marks-one n k qs now c.loop-at.invariant lt w.index.result.now (λ e. w.if-at-pid.true (sym e)) w.index.ensures
       | else-at-pid w ↦ ap (λ (v : Vec Proc Global). v.items) w.procs-is ∙ leaves-one n k qs now c.loop-at.invariant lt (sym w.if-at-pid.false)
     ]
 
