@@ -6,3 +6,4 @@ pub mod Program
 pub mod Start
 pub mod Rewound
 pub mod Marked
+pub mod Step

@@ -22,12 +22,16 @@ pub record MayKeep (m : Machine) (next : Alt) : Type 0 where
   pub choices : All (ChoiceFits m.atoms (base_in m)) m.choices.items
   pub left : 0 < length (untried_in m next)
 
--- a choice of what is next was kept, where there is any; all else stays
-pub record IsKept (old : Machine) (next : Alt) (new : Machine) : Type 0 where
+-- a choice of these worlds was kept, where there are any; all else stays
+pub record KeepsWorlds (old : Machine) (more : List World) (new : Machine) : Type 0 where
   pub same : new ≡ record old { state = new.state; choices = new.choices }
   pub plain : plain_of new.state ≡ plain_of old.state
   pub fits : All (ChoiceFits old.atoms (base_in old)) new.choices.items
-  pub kept : choices_of old.atoms (base_in old) new.choices.items ≡ with_choice old.stamp (world_in old) (untried_in old next) (choices_of old.atoms (base_in old) old.choices.items)
+  pub kept : choices_of old.atoms (base_in old) new.choices.items ≡ with_choice old.stamp (world_in old) more (choices_of old.atoms (base_in old) old.choices.items)
+
+-- a choice of what is next was kept
+abbrev pub IsKept : Machine → Alt → Machine → Type 0
+IsKept old next new = KeepsWorlds old (untried_in old next) new
 
 -- The machine goes on to contents with the next stamp. Names may be added; base, goal and choices stay.
 pub record Goes (old new : Machine) : Type 0 where

@@ -13,6 +13,7 @@ use Rattle.tp_meaning.specs.Machine as machine
 use Rattle.tp_meaning.specs.Machine.{IsChoice, stepped, rewound, resumed}
 use Rattle.tp_meaning.specs.Step.{searched}
 use Rattle.tp_meaning.proofs.Stack.{HasStack}
+use Rattle.tp_meaning.specs.Valid.{Valid}
 use Rattle.tp_meaning.proofs.Holds.{Holds, Stands}
 use Rattle.tp_store.specs.Contents.{Contents, subst_of, seen}
 use Rattle.tp_clauses.specs.Contents.{IsBase, base_of}
@@ -46,8 +47,8 @@ pub record IsProgram (m : Machine) : Type 0 where
 
 -- no act changes base and goal, and names are only added
 pub record SameProgram (old new : Machine) : Type 0 where
-  pub base : new.base ≡ old.base
-  pub goal : new.goal ≡ old.goal
+  pub base : new.base.now ≡ old.base.now
+  pub goal : new.goal.now ≡ old.goal.now
   pub names : Grows old.atoms new.atoms
 
 -- ---- worlds and choices
@@ -135,6 +136,12 @@ pub record IsMachine (m : Machine) : Type 0 where
   pub choices : All (ChoiceFits m.atoms (base_in m)) m.choices.items
   pub worlds : Holds (Stands m.goal.now.vars) (state_in m)
   pub stack : HasStack (searched (base_in m)) (state_in m)
+
+-- what holds of it whatever its choices are
+pub record IsStanding (m : Machine) : Type 0 where
+  pub program : IsProgram m
+  pub stands : PlainStands m.atoms (plain_of m.state)
+  pub valid : Valid (world_in m)
 
 -- a machine that went back to its newest choice; without that one it might make a step
 pub record IsBack (m : Machine) : Type 0 where

@@ -12,7 +12,7 @@ ghost use Rattle.tp_clauses.specs.Contents.{AreBelow};
 ghost use Rattle.tp_engine.specs.State.{plain_of};
 ghost use Rattle.tp_engine.specs.Program.{goal_term};
 ghost use Rattle.tp_engine.specs.Start.{IsPlaced, IsStart, waiting_at};
-ghost use Rattle.tp_engine.specs.Acts.{is_marked, is_live, is_late, mark, mark_others};
+ghost use Rattle.tp_engine.specs.Acts.{IsNextTime, is_marked, is_live, is_late, mark, mark_others};
 
 use crate::boxes::copy_boxes;
 use crate::frames::{Frames, Item};
@@ -296,6 +296,16 @@ impl State {
         let slot = self.slots.remove(0);
         self.clock = slot.time;
         slot.pid
+    }
+
+    /// The time of the first entry of the calendar.
+    pub fn next_time(&self) -> Option<i64>
+        ensures { IsNextTime self.now.slots.items result }
+    {
+        match self.slots.first() {
+            Some(slot) => Some(slot.time),
+            None => None,
+        }
     }
 
     /// The first process that is parked and marked.
