@@ -5,5 +5,6 @@ pub mod Worlds
 pub mod Program
 pub mod Start
 pub mod Rewound
+pub mod Marked
 pub mod Step
 mod Met
