@@ -7,4 +7,6 @@ pub mod Start
 pub mod Rewound
 pub mod Marked
 pub mod Step
-mod Met
+mod GoalsMet
+mod Cut
+mod Matched

@@ -94,7 +94,10 @@ impl<'a> Machine<'a> {
         ensures { OnOk result (IsKept self.old (Alt.Clause from) self.new) }
     {
         match self.next_match(task, call, from)? {
-            Some(next) => self.keep(Alt::Clause(next)),
+            Some(next) => {
+                self.keep(Alt::Clause(next))?;
+                Ok(())
+            }
             None => Ok(()),
         }
     }

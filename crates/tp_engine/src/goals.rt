@@ -60,8 +60,19 @@ impl<'a> Machine<'a> {
     {
         match goal_kind(call.name, call.count) {
             None => self.run_clauses(task, call),
-            Some(GoalKind::Control(goal)) => self.control(task, call, goal),
-            Some(_) => self.raise(task, Cause::Unknown(call.name, call.count)),
+            Some(kind) => self.take(task, call, kind),
+        }
+    }
+
+    /// A goal that the language has of its own. Process goals and built-ins aren't there yet.
+    fn take(&mut self, task: Task, call: Call, kind: GoalKind) -> Result<Stepped, NoMemory>
+        requires machine { IsMachine self.old }
+        requires call { Calls self.old task call (Some kind) }
+        ensures { IfOk result (Steps self.old self.new) }
+    {
+        match kind {
+            GoalKind::Control(goal) => self.control(task, call, goal),
+            _ => self.raise(task, Cause::Unknown(call.name, call.count)),
         }
     }
 

@@ -5,13 +5,23 @@ ghost use Rattle.tp_terms.specs.Term.{Name};
 ghost use Rattle.tp_meaning.specs.Clauses.{Base};
 ghost use Rattle.tp_meaning.specs.Machine.{cut_from};
 ghost use Rattle.tp_engine.specs.declared.frames.Item.{Item};
-ghost use Rattle.tp_engine.specs.Machine.{choices_of};
+ghost use Rattle.tp_engine.specs.Machine.{choices_of, newest_from};
 
 use crate::frames::Item;
 use crate::machine::{Alt, Choice, Machine};
 use crate::phase::Stepped;
 use crate::task::Task;
 use tp_terms::{EventKind, ItemId, NoMemory, ProcStatus, Ref};
+
+/// Whether the newest choice has this stamp or a higher one.
+fn newest_is_from(choices: &[Choice], stamp: u64) -> bool
+    ensures { result ≡ newest_from stamp choices.now }
+{
+    match choices.last() {
+        Some(choice) => choice.stamp >= stamp,
+        None => false,
+    }
+}
 
 /// Removes the choices with this stamp or a higher one.
 fn cut_choices(choices: &mut Vec<Choice>, stamp: u64)
@@ -20,10 +30,7 @@ fn cut_choices(choices: &mut Vec<Choice>, stamp: u64)
         ≡ cut_from stamp (choices_of names base choices.old.items) }
     ensures first { (n : ℕ) × (choices.new.items ≡ take n choices.old.items) }
 {
-    'cut: while let Some(choice) = choices.last() {
-        if choice.stamp < stamp {
-            return;
-        }
+    'cut: while newest_is_from(choices.as_slice(), stamp) {
         choices.pop();
     }
 }
