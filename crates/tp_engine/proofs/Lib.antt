@@ -1,17 +1,1 @@
-pub mod ListLemmas
-pub mod VarLemmas
-pub mod CallLemmas
-pub mod KindLemmas
-pub mod StepLemmas
-pub mod ErrorLemmas
-pub mod WorldLemmas
-pub mod MachineLemmas
-pub mod RunLemmas
-pub mod EnterLemmas
-pub mod DoneLemmas
-pub mod PhaseLemmas
-pub mod BeginLemmas
-pub mod TurnLemmas
-pub mod RoundLemmas
-pub mod SearchLemmas
 pub mod GoalLemmas

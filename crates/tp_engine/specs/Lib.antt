@@ -14,7 +14,8 @@ pub mod Machine
 pub mod Meets
 pub mod Goes
 pub mod Start
-pub mod Counted
 pub mod Told
+pub mod Phases
 pub mod Answers
 pub mod Ended
+pub mod Run

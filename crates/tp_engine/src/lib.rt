@@ -18,6 +18,7 @@ mod run;
 mod schedule;
 mod start;
 mod state;
+mod tally;
 mod task;
 #[cfg(test)]
 mod tests;
@@ -29,4 +30,5 @@ pub use engine::Engine;
 pub use phase::{Phase, Stepped};
 pub use run::{Ended, How};
 pub use start::StartFault;
+pub use tp_meaning::DeadCause;
 pub use view::AnswerView;
