@@ -8,9 +8,9 @@ use Rattle.tp_meaning.specs.World.{World, start}
 use Rattle.tp_meaning.specs.Body.{body}
 use Rattle.tp_meaning.specs.Goals.{goal_kind}
 use Rattle.tp_meaning.specs.Subst.{Subst, mgu}
-use Rattle.tp_meaning.specs.Clauses.{Clause, Base, predicate, renamed, head_of}
+use Rattle.tp_meaning.specs.Clauses.{Clause, Base, predicate}
 use Rattle.tp_meaning.specs.Machine as machine
-use Rattle.tp_meaning.specs.Machine.{IsChoice, stepped}
+use Rattle.tp_meaning.specs.Machine.{IsChoice, stepped, rewound, resumed}
 use Rattle.tp_meaning.specs.Step.{searched}
 use Rattle.tp_meaning.proofs.Stack.{HasStack}
 use Rattle.tp_meaning.proofs.Holds.{Holds, Stands}
@@ -19,7 +19,7 @@ use Rattle.tp_clauses.specs.Contents.{IsBase, base_of}
 use Rattle.tp_engine.specs.declared.frames.Item.{Item}
 use Rattle.tp_engine.specs.declared.frames.Item.TheVariants.{Goal, Retry}
 use Rattle.tp_engine.specs.declared.machine.Alt.{Alt}
-use Rattle.tp_engine.specs.declared.machine.Alt.TheVariants.{Clause, Second}
+use Rattle.tp_engine.specs.declared.machine.Alt.TheVariants as alt
 use Rattle.tp_engine.specs.declared.machine.Choice.{Choice}
 use Rattle.tp_engine.specs.declared.machine.Machine.{Machine}
 use Rattle.tp_engine.specs.declared.phase.Stepped.{Stepped}
@@ -118,8 +118,8 @@ pub record IsAgain (p : Plain) : Type 0 where
 
 -- what is next can be gone on with
 abbrev pub GoesOn : List Name → Base → Plain → Alt → Type 0
-GoesOn names base p (Clause place) = IsHit names base p place
-GoesOn names base p Second = IsAgain p
+GoesOn names base p (alt.Clause place) = IsHit names base p place
+GoesOn names base p alt.Second = IsAgain p
 
 pub record ChoiceFits (names : List Name) (base : Base) (c : Choice) : Type 0 where
   pub stands : PlainStands names (plain_of c.state)
@@ -175,7 +175,7 @@ RewindsTo old false new = IsMachine new × (new.stamp ≡ old.stamp)
 
 -- it went back, where there was a choice
 pub record Rewinds (old : Machine) (found : Bool) (new : Machine) : Type 0 where
-  pub back : (found, state_in new) ≡ machine.rewound (state_in old)
+  pub back : (found, state_in new) ≡ rewound (state_in old)
   pub same : SameProgram old new
   pub meaning : base_in new ≡ base_in old
   pub machine : RewindsTo old found new
@@ -185,5 +185,5 @@ pub record Resumes (old new : Machine) : Type 0 where
   pub machine : IsMachine new
   pub same : SameProgram old new
   pub meaning : base_in new ≡ base_in old
-  pub resumed : state_in new ≡ machine.resumed (state_in old)
+  pub resumed : state_in new ≡ resumed (state_in old)
   pub bound : new.stamp ≡ old.stamp + 1

@@ -8,7 +8,8 @@ use Rattle.tp_terms.specs.Term.{Name, Terms, Var, Int, term_of, count_of, all_re
 use Rattle.tp_terms.specs.Shown.{name_at, args_at}
 use Rattle.tp_meaning.specs.Subst.{value_at}
 use Rattle.tp_meaning.specs.Checks.{unknown}
-use Rattle.tp_meaning.specs.Goals.{GoalKind, goal_kind}
+use Rattle.tp_meaning.specs.declared.goals.GoalKind.{GoalKind}
+use Rattle.tp_meaning.specs.Goals.{goal_kind}
 use Rattle.tp_meaning.specs.Turn.{Turn}
 use Rattle.tp_meaning.specs.Clauses.{Base, predicate}
 use Rattle.tp_meaning.specs.Step.{goal_by}
@@ -59,11 +60,11 @@ pub record Runs (m : Machine) (process : ℕ) : Type 0 where
   pub few : m.stamp < 2 ^ 64 - 1
 
 -- the running process's first item is this one
-pub record HasFirst (m : Machine) (process : ℕ) (item : Item) (rest : Option ItemId) : Type 0 where
+pub record HasFirst (m : Machine) (process : ℕ) (item : Item) (behind : Option ItemId) : Type 0 where
   pub runs : Runs m process
-  pub list : items_in (plain_of m.state) ≡ item ∷ items_at m.state.frames rest
+  pub list : items_in (plain_of m.state) ≡ item ∷ items_at m.state.frames behind
   pub stands : ItemStands (length m.state.store.cells) item
-  pub rest : IfSome rest (λ i. i.at < length m.state.frames)
+  pub rest : IfSome behind (λ i. i.at < length m.state.frames)
 
 -- a goal
 abbrev pub Meets : Machine → Task → Type 0
@@ -86,10 +87,10 @@ IsMet names c goal (met.Number value) = seen names c goal.at ≡ Int value
 IsMet names c goal (met.Named call) = IsCall names c goal call
 
 -- a goal with a name, of this kind
-pub record Calls (m : Machine) (t : Task) (c : Call) (kind : Option GoalKind) : Type 0 where
+pub record Calls (m : Machine) (t : Task) (c : Call) (found : Option GoalKind) : Type 0 where
   pub meets : Meets m t
   pub call : IsCall m.atoms m.state.store t.goal c
-  pub kind : goal_kind (name_at m.atoms c.name.at) c.count ≡ kind
+  pub kind : goal_kind (name_at m.atoms c.name.at) c.count ≡ found
 
 -- the clauses of a goal's name and number of arguments
 abbrev pub clauses_of : Machine → Call → Base

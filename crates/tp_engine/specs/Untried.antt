@@ -4,7 +4,8 @@ use Rattle.tp_terms.specs.Term.{Name, Term, Terms, Var, Int, Atom, Comp, NoMore,
 use Rattle.tp_meaning.specs.World.{World, Item, Goal, Commit, Retry, items_at}
 use Rattle.tp_meaning.specs.Search as search
 use Rattle.tp_meaning.specs.Turn.{Turn, Gives}
-use Rattle.tp_meaning.specs.Goals.{GoalKind, goal_kind}
+use Rattle.tp_meaning.specs.declared.goals.GoalKind.{GoalKind}
+use Rattle.tp_meaning.specs.Goals.{goal_kind}
 use Rattle.tp_meaning.specs.Process.{await_again}
 use Rattle.tp_meaning.specs.Clauses.{Base, predicate, worlds_of}
 use Rattle.tp_engine.specs.declared.machine.Alt.{Alt}

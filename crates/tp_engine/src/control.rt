@@ -1,7 +1,7 @@
 //! The control goals (ISO/IEC 13211-1, 7.8).
 
 ghost use Rattle.std.specs.Prelude.{◌≡◌, Some, IfOk};
-ghost use Rattle.tp_meaning.specs.Goals.{Control};
+ghost use Rattle.tp_meaning.specs.declared.goals.GoalKind.TheVariants.{Control};
 ghost use Rattle.tp_meaning.specs.declared.goals.ControlGoal.{ControlGoal};
 
 use crate::errors::Cause;

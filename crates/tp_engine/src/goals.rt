@@ -1,6 +1,6 @@
 //! Goals, by their kinds.
 
-ghost use Rattle.std.specs.Prelude.{◌≡◌, ◌<◌, ◌+◌, Some, IfOk, length};
+ghost use Rattle.std.specs.Prelude.{◌≡◌, ◌<◌, ◌+◌, List, Option, Some, IfOk, length};
 ghost use Rattle.tp_terms.specs.Term.{Name};
 ghost use Rattle.tp_terms.specs.Shown.{AreNamed};
 ghost use Rattle.tp_store.specs.Contents.{IsStore};
@@ -35,7 +35,6 @@ pub fn met(store: &Store, goal: Ref) -> Met
 }
 
 impl<'a> Machine<'a> {
-    ghost use Rattle.std.specs.Prelude.{List, Option};
     ghost use Rattle.tp_engine.specs.Machine.{Steps};
     ghost use Rattle.tp_engine.specs.Meets.{Meets, Calls, IsCall, IsCause};
 

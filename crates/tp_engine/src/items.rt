@@ -1,13 +1,10 @@
 //! The items of the running process.
 
-ghost use Rattle.std.specs.Prelude.{◌≡◌, Some, None, IfOk, IfSome, OnOk, ◌∷◌, ◌<◌, ◌^◌, ◌-◌, length, All};
+ghost use Rattle.std.specs.Prelude.{◌≡◌, ℕ, List, Some, None, IfOk, OnOk, take};
 ghost use Rattle.tp_terms.specs.Term.{Name};
-ghost use Rattle.tp_terms.specs.Shown.{AreNamed};
-ghost use Rattle.tp_store.specs.Contents.{IsStore};
 ghost use Rattle.tp_meaning.specs.Clauses.{Base};
 ghost use Rattle.tp_meaning.specs.Machine.{cut_from};
 ghost use Rattle.tp_engine.specs.declared.frames.Item.{Item};
-ghost use Rattle.tp_engine.specs.declared.machine.Choice.{Choice};
 ghost use Rattle.tp_engine.specs.Machine.{choices_of};
 
 use crate::frames::Item;
@@ -21,7 +18,7 @@ fn cut_choices(choices: &mut Vec<Choice>, stamp: u64)
     ensures cut { (names : List Name) (base : Base) →
         choices_of names base choices.new.items
         ≡ cut_from stamp (choices_of names base choices.old.items) }
-    ensures within { (P : Choice → Type 0) → All P choices.old.items → All P choices.new.items }
+    ensures first { (n : ℕ) × (choices.new.items ≡ take n choices.old.items) }
 {
     'cut: while let Some(choice) = choices.last() {
         if choice.stamp < stamp {
@@ -32,7 +29,6 @@ fn cut_choices(choices: &mut Vec<Choice>, stamp: u64)
 }
 
 impl<'a> Machine<'a> {
-    ghost use Rattle.std.specs.Prelude.{List};
     ghost use Rattle.tp_engine.specs.declared.machine.Alt.{Alt};
     ghost use Rattle.tp_engine.specs.Machine.{Steps, Resumes};
     ghost use Rattle.tp_engine.specs.Meets.{Runs, HasFirst};

@@ -2,7 +2,7 @@ use Rattle.std.proofs.Common.{◌≡◌, ◌<◌, length, [], ◌∷◌, ◌∙�
 use Rattle.tp_terms.specs.declared.cells.Cell.TheVariants as cell
 use Rattle.tp_terms.specs.declared.symbols.TheConstants.{ERROR}
 use Rattle.tp_terms.proofs.ShownLemmas.{shows-append}
-use Rattle.tp_engine.proofs.ErrorLemmas.{with_cells, more_cells, length_cells, step_keeps, with_known, error_built}
+use Rattle.tp_engine.proofs.Raised.{with_cells, more_cells, length_cells, step_keeps, with_known, error_built}
 use Rattle.tp_engine.proofs.errors.error.Goals as goal
 
 pub returns : goal.returns

@@ -1,7 +1,7 @@
 use Rattle.std.proofs.Common.{◌≡◌, [], ◌∷◌, ◌∙◌, rules}
 use Rattle.tp_terms.specs.declared.cells.Cell.TheVariants as cell
 use Rattle.tp_terms.specs.declared.symbols.TheConstants.{TYPE_ERROR, CALLABLE}
-use Rattle.tp_engine.proofs.ErrorLemmas.{with_cells, more_cells, length_cells, step_keeps, with_known, number_built}
+use Rattle.tp_engine.proofs.Raised.{with_cells, more_cells, length_cells, step_keeps, with_known, number_built}
 use Rattle.tp_engine.proofs.errors.number_kind.Goals as goal
 
 pub returns-clause-built : goal.returns-clause-built

@@ -1,4 +1,4 @@
-use Rattle.tp_engine.proofs.ErrorLemmas.{built_trans}
+use Rattle.tp_engine.proofs.Raised.{built_trans}
 use Rattle.tp_engine.specs.Causes.{kind_term}
 use Rattle.tp_engine.proofs.errors.raised.Goals as goal
 

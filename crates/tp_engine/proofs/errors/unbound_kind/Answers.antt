@@ -1,4 +1,4 @@
-use Rattle.tp_engine.proofs.ErrorLemmas.{unbound_built}
+use Rattle.tp_engine.proofs.Raised.{unbound_built}
 use Rattle.tp_engine.proofs.errors.unbound_kind.Goals as goal
 
 pub returns-clause-built : goal.returns-clause-built

@@ -1,4 +1,4 @@
-use Rattle.tp_engine.proofs.GoalLemmas.{goal-fits, read-fits}
+use Rattle.tp_engine.proofs.GoalsRead.{goal-fits, read-fits}
 use Rattle.tp_engine.proofs.tests.goal_of.Goals as goal
 
 pub returns-in-Ok-clause-fits : goal.returns-in-Ok-clause-fits

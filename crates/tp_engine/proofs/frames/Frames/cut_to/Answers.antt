@@ -1,6 +1,6 @@
 use Rattle.std.proofs.Common.{take, ap, ◌∙◌}
 use Rattle.tp_engine.specs.Lists.{lists}
-use Rattle.tp_engine.proofs.ListLemmas.{lists-take}
+use Rattle.tp_engine.proofs.ListsLinked.{lists-take}
 use Rattle.tp_engine.proofs.frames.Frames.cut_to.Goals as goal
 
 pub returns : goal.returns

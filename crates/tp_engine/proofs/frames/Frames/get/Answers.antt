@@ -3,7 +3,7 @@ use Rattle.std.proofs.lemmas.Option.{slice_get-get_or}
 use Rattle.tp_engine.specs.declared.frames.Frame.{Frame}
 use Rattle.tp_engine.specs.declared.frames.Item.{Item}
 use Rattle.tp_engine.specs.Lists.{items_at, lists}
-use Rattle.tp_engine.proofs.ListLemmas.{length-lists, items_at-frame, next_within}
+use Rattle.tp_engine.proofs.ListsLinked.{length-lists, items_at-frame, next_within}
 use Rattle.tp_engine.proofs.frames.Frames.get.Goals as goal
 
 within : (fs : List Frame) (ls : List (List Item)) (at : ℕ) → lists fs ≡ ls → at < length ls → at < length fs

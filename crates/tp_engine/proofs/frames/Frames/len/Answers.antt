@@ -1,5 +1,5 @@
 use Rattle.std.proofs.Common.{◌≡◌, length, ap, sym, ◌∙◌, rules}
-use Rattle.tp_engine.proofs.ListLemmas.{length-lists}
+use Rattle.tp_engine.proofs.ListsLinked.{length-lists}
 use Rattle.tp_engine.proofs.frames.Frames.len.Goals as goal
 
 pub returns : goal.returns

@@ -1,7 +1,7 @@
 use Rattle.std.proofs.Common.{◌≡◌, ◌<◌, ◌∷◌, ◌++◌, [], length, IfSome, ap, sym, subst, ◌∙◌, rules}
 use Rattle.tp_engine.specs.declared.frames.Frame.{Frame}
 use Rattle.tp_engine.specs.Lists.{items_at, lists, AreLinked}
-use Rattle.tp_engine.proofs.ListLemmas.{length-lists, lists-push, linked-push}
+use Rattle.tp_engine.proofs.ListsLinked.{length-lists, lists-push, linked-push}
 use Rattle.tp_engine.proofs.frames.Frames.push.Goals as goal
 
 pub invariant_of-self-2 : goal.invariant_of-self-2

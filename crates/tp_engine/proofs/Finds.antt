@@ -1,0 +1,1 @@
+-- A run finds what the search finds.

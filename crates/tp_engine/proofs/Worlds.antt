@@ -1,0 +1,3 @@
+-- What acts on contents do to the world that they stand for.
+pub mod Items
+pub mod Stores
