@@ -1,1 +1,2 @@
 -- A run finds what the search finds.
+pub mod Turns

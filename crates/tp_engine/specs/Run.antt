@@ -75,7 +75,7 @@ pub record GoesBack (old : Machine) (how : Option How) (new : Machine) : Type 0 
   pub same : SameProgram old new
   pub meaning : base_in new ≡ base_in old
   pub bound : new.stamp ≤ old.stamp
-  pub stays : IfSome how (λ _. state_in new ≡ state_in old)
+  pub stays : IfSome how (λ h. (h ≡ NoMore) × (state_in new ≡ state_in old))
   pub turn : (t : Outcome World Term) → back_to t (state_in old) ≡ turn_to new how t
 
 -- where a machine stands that ended a run after a step with this answer, which led to this world

@@ -40,7 +40,8 @@ fn hand_over<A: Answers>(
 impl<'a> Machine<'a> {
     /// Back to the newest choice and on with it. Where there is none, the search ends.
     fn go_back(&mut self) -> Result<Option<How>, NoMemory>
-        requires { IsMachine self.old }
+        requires machine { IsMachine self.old }
+        requires stamp { self.old.stamp < 2 ^ 64 }
         ensures went { IfOk result (λ how. GoesBack self.old how self.new) }
         ensures same { OnErr result (SameProgram self.old self.new) }
     {
@@ -55,6 +56,7 @@ impl<'a> Machine<'a> {
     /// Goes on after a step with this answer, where so many answers were found.
     fn follow(&mut self, stepped: Stepped, found: u64, wanted: u64) -> Result<Option<How>, NoMemory>
         requires machine { IsMachine self.old }
+        requires stamp { self.old.stamp < 2 ^ 64 }
         requires place { ErrorStands self.old stepped }
         requires found { found ≤ wanted }
         ensures follows { IfOk result (λ how. Follows stepped found wanted self.old how self.new) }
@@ -62,8 +64,14 @@ impl<'a> Machine<'a> {
     {
         match stepped {
             Stepped::Went => Ok(None),
-            Stepped::Success if found == wanted => Ok(Some(How::Stopped)),
-            Stepped::Success | Stepped::Dead(_) => self.go_back(),
+            Stepped::Success => {
+                if found == wanted {
+                    Ok(Some(How::Stopped))
+                } else {
+                    self.go_back()
+                }
+            }
+            Stepped::Dead(_) => self.go_back(),
             Stepped::Raised(term) => Ok(Some(How::Raised {
                 term,
                 clock: self.state.clock,
