@@ -122,6 +122,15 @@ success x s s' = go (x.step s.world)
     go (search.Commit c v) e = absurd (let q : machine.Success ≡ machine.Went = ap (λ z. z.0) e in cc)
     go (search.Branch v more) e = absurd (let q : machine.Success ≡ machine.Went = ap (λ z. z.0) e in cc)
 
+-- so many answers there are after a step
+pub found_after : (c : Tally) (r : Stepped) (w : World) (t : Outcome World Term) → length t.answers ≡ c.found → (counted r c).found ≡ length (found_by r w t).answers
+found_after c answer.Went w t e = sym e
+found_after c answer.Success w t e = omega (arith, e, length-append t.answers ((w, t.steps + 1) ∷ []))
+found_after c (answer.Dead Failed) w t e = sym e
+found_after c (answer.Dead Deadlock) w t e = sym e
+found_after c (answer.Dead Late) w t e = sym e
+found_after c (answer.Raised place) w t e = sym e
+
 module _ (old mid : Machine) (c : Tally) where
   -- an answer that is handed over is the machine's next one
   next_is : SameProgram old mid → answer_in (seen_of mid (c.found + 1) (c.steps + 1)) ≡ next_answer old c (world_in mid)
@@ -134,15 +143,6 @@ module _ (old mid : Machine) (c : Tally) where
   answers_are answer.Success d e h = ap (λ (n : Tally). answer_in (seen_of mid n.found n.steps) ∷ []) e ∙ ap (λ a. a ∷ []) (next_is h)
   answers_are (answer.Dead cause) d e h = refl
   answers_are (answer.Raised place) d e h = refl
-
-  -- so many answers there are after a step
-  found_after : (r : Stepped) (w : World) (t : Outcome World Term) → length t.answers ≡ c.found → (counted r c).found ≡ length (found_by r w t).answers
-  found_after answer.Went w t e = sym e
-  found_after answer.Success w t e = omega (arith, e, length-append t.answers ((w, t.steps + 1) ∷ []))
-  found_after (answer.Dead Failed) w t e = sym e
-  found_after (answer.Dead Deadlock) w t e = sym e
-  found_after (answer.Dead Late) w t e = sym e
-  found_after (answer.Raised place) w t e = sym e
 
 went_by : (m : Machine) (r : Stepped) → (r ≡ answer.Went → ⊥) → answer_by m r ≡ machine.Went → ⊥
 went_by m answer.Went other e = other refl
@@ -167,7 +167,7 @@ turns takes wanted old mid new c d before now r how st e fit took f = record {
   ends = f.ends;
   turn = λ t is.
       ap (λ (z : machine.Stepped Term × State World). turned (searched (base_in old)) wanted z.0 z.1 t) (sym st.step)
-      ∙ f.turn t (ap (λ (n : Tally). n.found) e ∙ found_after old mid c r (world_in mid) t is);
+      ∙ f.turn t (ap (λ (n : Tally). n.found) e ∙ found_after c r (world_in mid) t is);
 }
   where
     stays : (h : Option How) → IfSome h (λ _. (r ≡ answer.Went → ⊥) × (state_in new ≡ state_in mid)) → IfSome h (λ _. state_in new ≡ state_in old)
