@@ -7,13 +7,15 @@ use Rattle.tp_meaning.proofs.Places.{all-weaker}
 use Rattle.tp_meaning.proofs.Stack.{HasStack, HasStackUpTo, stack_above, rewound-stack}
 use Rattle.tp_terms.specs.declared.world.Proc.{Proc}
 use Rattle.tp_store.proofs.FitsLemmas.{Fits-store}
+use Rattle.tp_engine.specs.declared.answers.AnswerFault.{AnswerFault}
+use Rattle.tp_engine.specs.declared.answers.AnswerFault.TheVariants as why
 use Rattle.tp_engine.specs.declared.machine.Machine.{Machine}
 use Rattle.tp_engine.specs.declared.phase.Phase.{Phase}
 use Rattle.tp_engine.specs.declared.phase.Phase.TheVariants as phase
 use Rattle.tp_engine.specs.declared.phase.Stepped.{Stepped}
 use Rattle.tp_engine.specs.declared.phase.Stepped.TheVariants as answer
 use Rattle.tp_engine.specs.Machine.{IsMachine, IsBack, IsProgram, SameProgram, RewindsTo, Rewinds, Resumes, Steps, base_in, open_in, state_in}
-use Rattle.tp_engine.specs.Phases.{IsReady, IsFresh, IsRewound, Keeps}
+use Rattle.tp_engine.specs.Phases.{IsReady, IsFresh, IsRewound, Keeps, phase_after}
 use Rattle.tp_engine.specs.Stands.{PlainStands, ProcStands}
 use Rattle.tp_engine.specs.State.{plain_of}
 use Rattle.tp_engine.specs.Told.{MayStep, MayRewind, MayResume, MayRun, IsWhole, IsSound, IsSame, IsCounted, IsUncounted, Told, number_after, seen_of, told_of}
@@ -85,6 +87,10 @@ module _ (m : Machine) (number steps : ℕ) where
 
   pub resumed_keeps : (new : Machine) → IsRewound m number steps → Resumes m new → IsReady new number steps
   resumed_keeps new h r = record { machine = r.machine; bound = (let b = h.bound in omega (arith, r.bound)); few = h.few }
+
+pub fault_keeps : (fault : AnswerFault) (m : Machine) (number steps : ℕ) → (fault ≡ why.Write → IsMachine m) → Keeps (phase_after fault) m number steps
+fault_keeps why.Write m number steps h = h refl
+fault_keeps why.NoMemory m number steps h = tt
 
 -- ---- stamps
 

@@ -68,6 +68,7 @@ turns_of e Budget = e.steps
 turns_of e _ = e.steps - 1
 
 -- The engine stands where that many turns lead. The turn that ended the search made its step there.
-pub record Reaches (old : Told) (wanted : ℕ) (t : Told) (e : Ended) : Type 0 where
-  pub tally : Outcome World Term
-  pub is : after_turns (searched old.base) wanted (turns_of e e.how) (started (world_in old.seen)) ≡ GoesOn (machine_of (state_of t) tally)
+abbrev pub Reaches : Told → ℕ → Told → Ended → Type 0
+Reaches old wanted t e =
+    (tally : Outcome World Term)
+    × (after_turns (searched old.base) wanted (turns_of e e.how) (started (world_in old.seen)) ≡ GoesOn (machine_of (state_of t) tally))

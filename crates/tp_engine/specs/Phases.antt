@@ -1,5 +1,7 @@
 -- What holds of an engine, by the call that was the last.
 use Rattle.std.specs.Prelude.{◌≡◌, ℕ, ◌<◌, ◌≤◌, true, false, []}
+use Rattle.tp_engine.specs.declared.answers.AnswerFault.{AnswerFault}
+use Rattle.tp_engine.specs.declared.answers.AnswerFault.TheVariants.{Write, NoMemory}
 use Rattle.tp_engine.specs.declared.machine.Machine.{Machine}
 use Rattle.tp_engine.specs.declared.phase.Phase.{Phase}
 use Rattle.tp_engine.specs.declared.phase.Phase.TheVariants as phase
@@ -28,3 +30,8 @@ Keeps (phase.Rewound true) m number steps = IsRewound m number steps
 Keeps phase.Ran m number steps = IsMachine m
 Keeps phase.Broken m number steps = Unit {0}
 Keeps _ m number steps = IsReady m number steps
+
+-- after a run that met a fault of what takes answers, the view may be asked; after want of memory nothing goes on
+abbrev pub phase_after : AnswerFault → Phase
+phase_after Write = phase.Ran
+phase_after NoMemory = phase.Broken

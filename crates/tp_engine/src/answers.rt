@@ -6,6 +6,7 @@ ghost use Rattle.tp_engine.specs.Told.{IsSound};
 ghost use Rattle.tp_engine.specs.Answers.{Answer, answer_in};
 ghost use Rattle.tp_engine.specs.declared.answers.AnswerFault.{AnswerFault};
 
+use crate::phase::Phase;
 use crate::view::AnswerView;
 use tp_terms::NoMemory;
 
@@ -26,6 +27,20 @@ impl From<NoMemory> for AnswerFault {
 
     fn from(_refused: NoMemory) -> Self {
         AnswerFault::NoMemory
+    }
+}
+
+impl AnswerFault {
+    ghost use Rattle.tp_engine.specs.Phases.{phase_after};
+
+    /// The phase of an engine whose run met this fault: after `Write` the view may be asked.
+    pub(crate) fn phase(self) -> Phase
+        ensures { result ≡ phase_after self }
+    {
+        match self {
+            AnswerFault::Write => Phase::Ran,
+            AnswerFault::NoMemory => Phase::Broken,
+        }
     }
 }
 

@@ -5,6 +5,7 @@ ghost use Rattle.tp_outside.specs.Count.{Rose};
 ghost use Rattle.tp_engine.specs.Machine.{IsMachine, SameProgram};
 ghost use Rattle.tp_engine.specs.Answers.{IsCutShort, Took, numbered};
 ghost use Rattle.tp_engine.specs.Ended.{Finds, Reaches, outcome_of};
+ghost use Rattle.tp_engine.specs.Phases.{phase_after};
 ghost use Rattle.tp_engine.specs.Run.{ended_by};
 ghost use Rattle.tp_engine.specs.Told.{IsSame, IsUncounted, MayRun, told_of};
 ghost use Rattle.tp_engine.specs.declared.phase.Phase.{Phase};
@@ -92,7 +93,7 @@ fn search<A: Answers>(
         fault answers.old answers.new) }
     ensures same { SameProgram machine.old machine.new }
     ensures machine { OnOk result (IsMachine machine.new) }
-    ensures refused { result ≡ Err AnswerFault.Write → IsMachine machine.new }
+    ensures refused { IfErr result (λ fault. fault ≡ AnswerFault.Write → IsMachine machine.new) }
     ensures never_falls { A.faults answers.old ≤ A.faults answers.new }
     ensures write { result ≡ Err AnswerFault.Write → Rose (A.faults answers.old) (A.faults answers.new) }
 {
@@ -142,14 +143,12 @@ impl<'a> Engine<'a> {
         ensures same { IsSame self.old self.new }
         ensures uncounted { OnErr result (IsUncounted self.old self.new) }
         ensures phase { OnOk result (self.new.phase ≡ Phase.Ran) }
-        ensures refused { result ≡ Err AnswerFault.Write → self.new.phase ≡ Phase.Ran }
-        ensures broken { result ≡ Err AnswerFault.NoMemory → self.new.phase ≡ Phase.Broken }
+        ensures fault { IfErr result (λ fault. self.new.phase ≡ phase_after fault) }
         ensures stays { self.old.phase ≡ Phase.Broken → result ≡ Err AnswerFault.NoMemory }
     {
         if let Phase::Broken = self.phase {
             return Err(AnswerFault::NoMemory);
         }
-        self.phase = Phase::Broken;
         match search(&mut self.machine, budget, wanted, answers) {
             Ok(ended) => {
                 self.steps = ended.steps;
@@ -157,11 +156,10 @@ impl<'a> Engine<'a> {
                 self.phase = Phase::Ran;
                 Ok(ended)
             }
-            Err(AnswerFault::Write) => {
-                self.phase = Phase::Ran;
-                Err(AnswerFault::Write)
+            Err(fault) => {
+                self.phase = fault.phase();
+                Err(fault)
             }
-            Err(AnswerFault::NoMemory) => Err(AnswerFault::NoMemory),
         }
     }
 }

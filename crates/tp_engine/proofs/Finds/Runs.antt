@@ -220,10 +220,10 @@ module _ {A : Type 0} (takes : A → Answer → A → Type 0) (start : Machine) 
       before_last Budget e = absurd e
 
       pub reaches : Reaches (told_of phase.New start 0 0) k (told_of phase.Ran new d.found d.steps) (ended_by d how)
-      reaches = record {
-        tally = tally_of c run.answers;
-        is = ap (λ n. after_turns x k n (started (world_in start))) (before_last how t.ends) ∙ run.turns ∙ ap (λ s. GoesOn (machine_of s (tally_of c run.answers))) (sym t.stays);
-      }
+      reaches = (
+        tally_of c run.answers,
+        ap (λ n. after_turns x k n (started (world_in start))) (before_last how t.ends) ∙ run.turns ∙ ap (λ s. GoesOn (machine_of s (tally_of c run.answers))) (sym t.stays),
+      )
 
     -- ---- no step is left
 
@@ -238,7 +238,7 @@ module _ {A : Type 0} (takes : A → Answer → A → Type 0) (start : Machine) 
       spends_took = subst (λ xs. Took takes first (told xs) mid) (ap (λ (q : Outcome World Term). q.answers) spent) run.took
 
     pub spends_reaches : Reaches (told_of phase.New start 0 0) k (told_of phase.Ran old c.found c.steps) (ended_by c Budget)
-    spends_reaches = record { tally = tally_of c run.answers; is = run.turns }
+    spends_reaches = (tally_of c run.answers, run.turns)
 
     -- ---- a fault
 
