@@ -19,7 +19,7 @@ use Rattle.tp_engine.specs.Phases.{IsReady, IsFresh, IsRewound, Keeps, phase_aft
 use Rattle.tp_engine.specs.Stands.{PlainStands, ProcStands}
 use Rattle.tp_engine.specs.State.{plain_of}
 use Rattle.tp_engine.specs.Told.{MayStep, MayRewind, MayResume, MayRun, IsWhole, IsSound, IsSame, IsCounted, IsUncounted, Told, number_after, seen_of, told_of}
-use Rattle.tp_engine.proofs.Program.{base_stays}
+use Rattle.tp_engine.proofs.Later.{base_stays}
 
 -- what holds holds after an error
 pub on_err : {T E P : Type 0} (r : Result T E) → P → OnErr r P

@@ -3,6 +3,12 @@ mod Raised
 pub mod HeadsMet
 pub mod Worlds
 pub mod Program
+pub mod Start
+pub mod Rewound
+pub mod Marked
+pub mod Step
+mod Met
+pub mod Later
 pub mod Calls
 pub mod Finds
 pub mod GoalsRead

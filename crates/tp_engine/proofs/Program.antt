@@ -1,41 +1,71 @@
--- The clauses that a machine runs.
-use Rattle.std.proofs.Common.{◌≡◌, List, [], ◌∷◌, map, length, Option, Some, None, refl, ap, ◌∙◌}
-use Rattle.std.specs.Prelude.{option_map}
+-- The variables of a goal and of the clauses of a base are below their numbers.
+use Rattle.std.proofs.Common.{◌≡◌, ℕ, ◌<◌, ◌||◌, Bool, true, false, List, length, Option, Some, None, option_map, IfSome, refl, ap, sym, ◌∙◌}
 use Rattle.std.specs.List.{AllByRecursion}
+use Rattle.std.proofs.Common.{eq-eqb}
+use Rattle.std.proofs.lemmas.List.Elements.{recursion_from_All}
 use Rattle.tp_terms.specs.declared.cells.Cell.{Cell}
 use Rattle.tp_terms.specs.declared.cells.Ref.{Ref}
-use Rattle.tp_terms.specs.Term.{Name}
-use Rattle.tp_terms.specs.Names.{Grows}
-use Rattle.tp_terms.specs.Shown.{shows, AreNamed}
-use Rattle.tp_terms.proofs.NameLemmas.{Grows-shows}
-use Rattle.tp_meaning.specs.Valid.{ClauseFits}
-use Rattle.tp_clauses.specs.Contents.{Contents, base_of, clause_by, clause_of}
+use Rattle.tp_terms.specs.Term.{Name, Term, Terms, Var, Int, Atom, Comp, NoMore, More, occurs, occurs_in}
+use Rattle.tp_terms.specs.Shown.{shows}
+use Rattle.tp_terms.proofs.BindsLemmas.{occurs-shows}
+use Rattle.tp_meaning.specs.Valid.{Below, AllBelow, ClauseFits}
+use Rattle.tp_meaning.proofs.Places.{all-map}
+use Rattle.tp_parse.specs.declared.read.ReadTerm.{ReadTerm}
 use Rattle.tp_clauses.specs.declared.base.ClauseView.{ClauseView}
+use Rattle.tp_clauses.specs.Contents.{AreBelow, ViewFits, clause_of, head_args}
 use Rattle.tp_engine.specs.declared.machine.Machine.{Machine}
-use Rattle.tp_engine.specs.Machine.{IsProgram, SameProgram, base_in}
+use Rattle.tp_engine.specs.Program.{GoalFits, goal_term}
+use Rattle.tp_engine.specs.Machine.{IsProgram, base_in}
 
--- each clause of a machine's base has its variables below its number of variables
+or-left : (a b : Bool) → a ≡ true → (a || b) ≡ true
+or-left a b e = ap (λ c. c || b) e
+
+or-right : (a b : Bool) → b ≡ true → (a || b) ≡ true
+or-right true b e = refl
+or-right false b e = e
+
+-- a term in which only such variables occur
+mutual
+  pub below-occurs : (n : ℕ) (t : Term) → ((v : ℕ) → occurs v t ≡ true → v < n) → Below n t
+  below-occurs n (Var v) h = h v (eq-eqb v v refl)
+  below-occurs n (Int z) h = tt
+  below-occurs n (Atom a) h = tt
+  below-occurs n (Comp f ts) h = all_below-occurs n ts h
+
+  pub all_below-occurs : (n : ℕ) (ts : Terms) → ((v : ℕ) → occurs_in v ts ≡ true → v < n) → AllBelow n ts
+  all_below-occurs n NoMore h = tt
+  all_below-occurs n (More t ts) h = (
+    below-occurs n t (λ v e. h v (or-left (occurs v t) (occurs_in v ts) e)),
+    all_below-occurs n ts (λ v e. h v (or-right (occurs v t) (occurs_in v ts) e)),
+  )
+
+-- names are no matter
+pub shown-below : (names : List Name) (cells : List Cell) (n : ℕ) (place : Ref) → AreBelow cells n place → Below n (shows names cells place.at)
+shown-below names cells n place h = below-occurs n (shows names cells place.at) (λ v e. h v (sym (occurs-shows names cells place.at v) ∙ e))
+
+-- the arguments of a head
+args-below : (n : ℕ) (t : Term) → Below n t → AllBelow n (head_args t)
+args-below n (Var v) h = tt
+args-below n (Int z) h = tt
+args-below n (Atom a) h = tt
+args-below n (Comp f ts) h = h
+
+pub view_clause-fits : (names : List Name) (cells : List Cell) (v : ClauseView) → ViewFits cells v → ClauseFits (clause_of names cells v)
+view_clause-fits names cells v h = record {
+  head = args-below v.vars (shows names cells v.head.at) (shown-below names cells v.vars v.head h.below);
+  body = body v.body h.body;
+}
+  where
+    body : (o : Option Ref) → IfSome o (λ place. (place.at < length cells) × AreBelow cells v.vars place) → IfSome (option_map (λ (r : Ref). shows names cells r.at) o) (Below v.vars)
+    body None k = tt
+    body (Some r) k = shown-below names cells v.vars r k.1
+
+-- every clause of the program's base fits
 pub base_fits : (m : Machine) → IsProgram m → AllByRecursion ClauseFits (base_in m)
-base_fits m h = ?
+base_fits m h =
+    all-map ClauseFits (clause_of m.atoms m.base.now.cells) (ViewFits m.base.now.cells) (view_clause-fits m.atoms m.base.now.cells) m.base.now.clauses
+    (recursion_from_All (ViewFits m.base.now.cells) m.base.now.clauses h.base.clauses)
 
-module _ (old new : List Name) (grows : Grows old new) (cells : List Cell) (named : AreNamed (length old) cells) where
-  body-later : (b : Option Ref) → option_map (λ place. shows new cells place.at) b ≡ option_map (λ place. shows old cells place.at) b
-  body-later None = refl
-  body-later (Some place) = ap Some (Grows-shows old new grows cells place.at named)
-
-  clause-later : (v : ClauseView) → clause_of new cells v ≡ clause_of old cells v
-  clause-later v =
-      ap (λ t. clause_by t (option_map (λ place. shows new cells place.at) v.body) v.vars) (Grows-shows old new grows cells v.head.at named)
-      ∙ ap (λ b. clause_by (shows old cells v.head.at) b v.vars) (body-later v.body)
-
-  clauses-later : (vs : List ClauseView) → map (clause_of new cells) vs ≡ map (clause_of old cells) vs
-  clauses-later [] = refl
-  clauses-later (v ∷ vs) = ap (λ c. c ∷ map (clause_of new cells) vs) (clause-later v) ∙ ap (λ more. clause_of old cells v ∷ more) (clauses-later vs)
-
--- more names change no clause
-pub base-later : (old new : List Name) (c : Contents) → Grows old new → AreNamed (length old) c.cells → base_of new c ≡ base_of old c
-base-later old new c grows named = clauses-later old new grows c.cells named c.clauses
-
--- what is added to a machine's names changes none of its clauses
-pub base_stays : (old new : Machine) → IsProgram old → SameProgram old new → base_in new ≡ base_in old
-base_stays old new h same = ap (λ b. base_of new.atoms b.now) same.base ∙ base-later old.atoms new.atoms old.base.now same.names h.named
+-- so does the goal's term
+pub goal_below : (names : List Name) (goal : ReadTerm) → GoalFits names goal → Below goal.vars (goal_term names goal)
+goal_below names goal h = shown-below names goal.cells.items goal.vars goal.root h.variables

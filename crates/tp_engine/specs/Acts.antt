@@ -1,5 +1,5 @@
 -- What acts do to plain contents.
-use Rattle.std.specs.Prelude.{ℕ, List, [], ◌∷◌, ◌++◌, length, map, Option, Some, None, Bool, true, false, slice_set, zero, suc, ℤ, int_lt, ◌&&◌, if◌then◌else◌}
+use Rattle.std.specs.Prelude.{◌≡◌, ℕ, List, [], ◌∷◌, ◌++◌, length, map, Option, Some, None, Bool, true, false, slice_set, zero, suc, ℤ, int_lt, ◌&&◌, if◌then◌else◌}
 use Rattle.tp_terms.specs.declared.Limit.{Limit}
 use Rattle.tp_terms.specs.declared.Limit.TheVariants.{At, Inf}
 use Rattle.tp_terms.specs.declared.ProcStatus.{ProcStatus}
@@ -73,6 +73,11 @@ abbrev pub mark_others : ℕ → List Proc → List Proc
 mark_others n [] = []
 mark_others zero (q ∷ qs) = q ∷ map mark qs
 mark_others (suc n) (q ∷ qs) = mark q ∷ mark_others n qs
+
+-- the time of the first entry, where there is one
+abbrev pub IsNextTime : List Slot → Option ℤ → Type 0
+IsNextTime [] time = time ≡ None
+IsNextTime (e ∷ es) time = time ≡ Some e.time
 
 -- ---- tests of processes
 

@@ -2,14 +2,16 @@
 use Rattle.std.specs.Prelude.{◌≡◌, ℕ, ◌+◌, ◌<◌, ◌^◌, ◌-◌, List, ◌∷◌, length, All}
 use Rattle.tp_terms.specs.Names.{IsTable, Grows}
 use Rattle.tp_meaning.specs.World.{World}
-use Rattle.tp_meaning.specs.Machine.{with_choice}
+use Rattle.tp_meaning.specs.Machine.{IsChoice, with_choice}
+use Rattle.tp_meaning.specs.Step.{searched}
+use Rattle.tp_meaning.proofs.Holds.{ChoiceHolds, Stands}
 use Rattle.tp_engine.specs.declared.machine.Alt.{Alt}
 use Rattle.tp_engine.specs.declared.machine.Alt.TheVariants.{Clause}
 use Rattle.tp_engine.specs.declared.machine.Machine.{Machine}
 use Rattle.tp_engine.specs.State.{plain_of}
 use Rattle.tp_engine.specs.Stands.{PlainStands}
 use Rattle.tp_engine.specs.Untried.{untried}
-use Rattle.tp_engine.specs.Machine.{ChoiceFits, GoesOn, IsMachine, base_in, choices_of, world_in}
+use Rattle.tp_engine.specs.Machine.{ChoiceFits, GoesOn, IsMachine, base_in, choices_of, open_at, world_in}
 
 -- what is next in the machine's world
 abbrev pub untried_in : Machine → Alt → List World
@@ -22,12 +24,16 @@ pub record MayKeep (m : Machine) (next : Alt) : Type 0 where
   pub choices : All (ChoiceFits m.atoms (base_in m)) m.choices.items
   pub left : 0 < length (untried_in m next)
 
--- a choice of what is next was kept, where there is any; all else stays
-pub record IsKept (old : Machine) (next : Alt) (new : Machine) : Type 0 where
+-- a choice of these worlds was kept, where there are any; all else stays
+pub record KeepsWorlds (old : Machine) (more : List World) (new : Machine) : Type 0 where
   pub same : new ≡ record old { state = new.state; choices = new.choices }
   pub plain : plain_of new.state ≡ plain_of old.state
   pub fits : All (ChoiceFits old.atoms (base_in old)) new.choices.items
-  pub kept : choices_of old.atoms (base_in old) new.choices.items ≡ with_choice old.stamp (world_in old) (untried_in old next) (choices_of old.atoms (base_in old) old.choices.items)
+  pub kept : choices_of old.atoms (base_in old) new.choices.items ≡ with_choice old.stamp (world_in old) more (choices_of old.atoms (base_in old) old.choices.items)
+
+-- a choice of what is next was kept
+abbrev pub IsKept : Machine → Alt → Machine → Type 0
+IsKept old next new = KeepsWorlds old (untried_in old next) new
 
 -- The machine goes on to contents with the next stamp. Names may be added; base, goal and choices stay.
 pub record Goes (old new : Machine) : Type 0 where
@@ -46,4 +52,6 @@ pub record Enters (old : Machine) (place : ℕ) (new : Machine) : Type 0 where
 pub record Returns (m : Machine) (next : Alt) : Type 0 where
   pub machine : IsMachine m
   pub goes_on : GoesOn m.atoms (base_in m) (plain_of m.state) next
+  pub open_ : IsChoice (searched (base_in m)) (m.stamp + 1) (open_at (base_in m) (world_in m) m.stamp next)
+  pub worlds : ChoiceHolds (Stands m.goal.now.vars) (open_at (base_in m) (world_in m) m.stamp next)
   pub few : m.stamp < 2 ^ 64 - 1

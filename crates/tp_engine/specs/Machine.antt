@@ -13,7 +13,8 @@ use Rattle.tp_meaning.specs.Machine as machine
 use Rattle.tp_meaning.specs.Machine.{IsChoice, stepped, rewound, resumed}
 use Rattle.tp_meaning.specs.Step.{searched}
 use Rattle.tp_meaning.proofs.Stack.{HasStack}
-use Rattle.tp_meaning.proofs.Holds.{Holds, Stands}
+use Rattle.tp_meaning.specs.Valid.{Valid}
+use Rattle.tp_meaning.proofs.Holds.{Holds, ChoiceHolds, Stands}
 use Rattle.tp_store.specs.Contents.{Contents, subst_of, seen}
 use Rattle.tp_clauses.specs.Contents.{IsBase, base_of}
 use Rattle.tp_engine.specs.declared.frames.Item.{Item}
@@ -46,8 +47,8 @@ pub record IsProgram (m : Machine) : Type 0 where
 
 -- no act changes base and goal, and names are only added
 pub record SameProgram (old new : Machine) : Type 0 where
-  pub base : new.base ≡ old.base
-  pub goal : new.goal ≡ old.goal
+  pub base : new.base.now ≡ old.base.now
+  pub goal : new.goal.now ≡ old.goal.now
   pub names : Grows old.atoms new.atoms
 
 -- ---- worlds and choices
@@ -136,6 +137,12 @@ pub record IsMachine (m : Machine) : Type 0 where
   pub worlds : Holds (Stands m.goal.now.vars) (state_in m)
   pub stack : HasStack (searched (base_in m)) (state_in m)
 
+-- what holds of it whatever its choices are
+pub record IsStanding (m : Machine) : Type 0 where
+  pub program : IsProgram m
+  pub stands : PlainStands m.atoms (plain_of m.state)
+  pub valid : Valid (world_in m)
+
 -- a machine that went back to its newest choice; without that one it might make a step
 pub record IsBack (m : Machine) : Type 0 where
   pub next : Alt
@@ -143,6 +150,7 @@ pub record IsBack (m : Machine) : Type 0 where
   pub machine : IsMachine (record m { waiting = None })
   pub goes_on : GoesOn m.atoms (base_in m) (plain_of m.state) next
   pub open_ : IsChoice (searched (base_in m)) (m.stamp + 1) (open_at (base_in m) (world_in m) m.stamp next)
+  pub worlds : ChoiceHolds (Stands m.goal.now.vars) (open_at (base_in m) (world_in m) m.stamp next)
 
 -- a machine at the start of the goal, which has a body
 pub record IsBegun (m : Machine) : Type 0 where

@@ -1,5 +1,5 @@
 -- What a machine meets before a step.
-use Rattle.std.specs.Prelude.{◌≡◌, ℕ, false, ◌+◌, ◌<◌, ◌≤◌, ◌^◌, ◌-◌, List, ◌∷◌, length, drop, position, Option, Some, None, IfSome, Err}
+use Rattle.std.specs.Prelude.{◌≡◌, ℕ, true, false, ◌+◌, ◌<◌, ◌≤◌, ◌^◌, ◌-◌, List, ◌∷◌, length, drop, position, Option, Some, None, IfSome, Err}
 use Rattle.std.specs.List.{list_any, position_from}
 use Rattle.tp_terms.specs.declared.world.ItemId.{ItemId}
 use Rattle.tp_terms.specs.declared.world.Slot.{Slot}
@@ -11,7 +11,7 @@ use Rattle.tp_meaning.specs.Checks.{unknown}
 use Rattle.tp_meaning.specs.declared.goals.GoalKind.{GoalKind}
 use Rattle.tp_meaning.specs.Goals.{goal_kind}
 use Rattle.tp_meaning.specs.Turn.{Turn}
-use Rattle.tp_meaning.specs.Clauses.{Base, predicate}
+use Rattle.tp_meaning.specs.Clauses.{Base, Clause, predicate}
 use Rattle.tp_meaning.specs.Step.{goal_by}
 use Rattle.tp_store.specs.Contents.{Contents, subst_of, seen}
 use Rattle.tp_engine.specs.declared.frames.Item.{Item}
@@ -28,7 +28,7 @@ use Rattle.tp_engine.specs.Lists.{items_at}
 use Rattle.tp_engine.specs.State.{plain_of}
 use Rattle.tp_engine.specs.Stands.{ItemStands}
 use Rattle.tp_engine.specs.Heads.{hits}
-use Rattle.tp_engine.specs.Machine.{IsMachine, base_in, items_in}
+use Rattle.tp_engine.specs.Machine.{IsMachine, IsStanding, base_in, items_in}
 
 -- ---- where no process runs
 
@@ -61,7 +61,9 @@ pub record Runs (m : Machine) (process : ℕ) : Type 0 where
 
 -- the running process's first item is this one
 pub record HasFirst (m : Machine) (process : ℕ) (item : Item) (behind : Option ItemId) : Type 0 where
-  pub runs : Runs m process
+  pub standing : IsStanding m
+  pub running : m.state.running ≡ Some process
+  pub few : m.stamp < 2 ^ 64 - 1
   pub list : items_in (plain_of m.state) ≡ item ∷ items_at m.state.frames behind
   pub stands : ItemStands (length m.state.store.cells) item
   pub rest : IfSome behind (λ i. i.at < length m.state.frames)
@@ -103,8 +105,10 @@ found_from m t c from = position_from (hits m.atoms m.state.store t.goal.at) fro
 -- a goal whose clause at a place has a unifier with it
 pub record Hits (m : Machine) (t : Task) (c : Call) (place : ℕ) : Type 0 where
   pub calls : Calls m t c None
-  pub found : found_from m t c place ≡ Some place
-  pub few : place < 2 ^ 63
+  pub clause : Clause
+  pub more : List Clause
+  pub here : drop place (clauses_of m c) ≡ clause ∷ more
+  pub hit : hits m.atoms m.state.store t.goal.at clause ≡ true
 
 -- the goal has no clauses, or is one of the language's own that isn't there yet
 pub record IsUnknown (m : Machine) (t : Task) (name : ℕ) (count : ℕ) : Type 0 where

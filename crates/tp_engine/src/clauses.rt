@@ -48,7 +48,8 @@ impl<'a> Machine<'a> {
         call: Call,
         from: usize,
     ) -> Result<Option<usize>, NoMemory>
-        requires { Calls self.old task call None }
+        requires machine { IsMachine self.old }
+        requires call { Calls self.old task call None }
         ensures same { OnOk result (self.new ≡ self.old) }
         ensures found { IfOk result (λ r. r ≡ found_from self.old task call from) }
         ensures few { IfOk result (λ r. IfSome r (λ k. k < 2 ^ 63)) }
@@ -71,7 +72,8 @@ impl<'a> Machine<'a> {
 
     /// A goal goes on with the first of its clauses that has a unifier with it, and a choice is kept for the others.
     pub fn run_clauses(&mut self, task: Task, call: Call) -> Result<Stepped, NoMemory>
-        requires { Calls self.old task call None }
+        requires machine { IsMachine self.old }
+        requires call { Calls self.old task call None }
         ensures { IfOk result (Steps self.old self.new) }
     {
         if self.places(call).is_empty() {
@@ -87,7 +89,8 @@ impl<'a> Machine<'a> {
 
     /// Keeps a choice, where a clause from a place on has a unifier with the goal.
     fn keep_clauses(&mut self, task: Task, call: Call, from: usize) -> Result<(), NoMemory>
-        requires { Calls self.old task call None }
+        requires machine { IsMachine self.old }
+        requires call { Calls self.old task call None }
         ensures { OnOk result (IsKept self.old (Alt.Clause from) self.new) }
     {
         match self.next_match(task, call, from)? {

@@ -13,7 +13,7 @@ use tp_meaning::{ControlGoal, DeadCause};
 use tp_terms::{NoMemory, Ref};
 
 impl<'a> Machine<'a> {
-    ghost use Rattle.tp_engine.specs.Machine.{Steps};
+    ghost use Rattle.tp_engine.specs.Machine.{IsMachine, Steps};
     ghost use Rattle.tp_engine.specs.Meets.{Calls};
 
     /// A control goal. Those that aren't there yet are unknown.
@@ -23,7 +23,8 @@ impl<'a> Machine<'a> {
         call: Call,
         goal: ControlGoal,
     ) -> Result<Stepped, NoMemory>
-        requires { Calls self.old task call (Some (Control goal)) }
+        requires machine { IsMachine self.old }
+        requires call { Calls self.old task call (Some (Control goal)) }
         ensures { IfOk result (Steps self.old self.new) }
     {
         match goal {
@@ -36,7 +37,8 @@ impl<'a> Machine<'a> {
 
     /// `true` goes on with what is behind it.
     fn succeed(&mut self, task: Task, _call: Call) -> Stepped
-        requires { Calls self.old task _call (Some (Control ControlGoal.True)) }
+        requires machine { IsMachine self.old }
+        requires call { Calls self.old task _call (Some (Control ControlGoal.True)) }
         ensures { Steps self.old self.new result }
     {
         self.state.items = task.rest;
@@ -46,7 +48,8 @@ impl<'a> Machine<'a> {
 
     /// A conjunction becomes its two goals.
     fn conjoin(&mut self, task: Task, call: Call) -> Result<Stepped, NoMemory>
-        requires { Calls self.old task call (Some (Control ControlGoal.Conjunction)) }
+        requires machine { IsMachine self.old }
+        requires call { Calls self.old task call (Some (Control ControlGoal.Conjunction)) }
         ensures { IfOk result (Steps self.old self.new) }
     {
         let second = self.argument(call, 1);

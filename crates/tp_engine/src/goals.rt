@@ -35,12 +35,13 @@ pub fn met(store: &Store, goal: Ref) -> Met
 }
 
 impl<'a> Machine<'a> {
-    ghost use Rattle.tp_engine.specs.Machine.{Steps};
+    ghost use Rattle.tp_engine.specs.Machine.{IsMachine, Steps};
     ghost use Rattle.tp_engine.specs.Meets.{Meets, Calls, IsCall, IsCause};
 
     /// The running process meets a goal.
     pub fn meet(&mut self, task: Task) -> Result<Stepped, NoMemory>
-        requires { Meets self.old task }
+        requires machine { IsMachine self.old }
+        requires meets { Meets self.old task }
         ensures { IfOk result (Steps self.old self.new) }
     {
         match met(&self.state.store, task.goal) {
@@ -52,6 +53,7 @@ impl<'a> Machine<'a> {
 
     /// The running process meets a goal with a name.
     fn call(&mut self, task: Task, call: Call) -> Result<Stepped, NoMemory>
+        requires machine { IsMachine self.old }
         requires meets { Meets self.old task }
         requires call { IsCall self.old.atoms self.old.state.store task.goal call }
         ensures { IfOk result (Steps self.old self.new) }
@@ -65,11 +67,12 @@ impl<'a> Machine<'a> {
 
     /// A goal raises an error.
     pub fn raise(&mut self, task: Task, cause: Cause) -> Result<Stepped, NoMemory>
+        requires machine { IsMachine self.old }
         requires meets { Meets self.old task }
         requires cause { IsCause self.old task cause }
         ensures { IfOk result (Steps self.old self.new) }
     {
-        let process = self.state.procs[task.process].name;
+        let process = self.state.name_of(task.process);
         let place = raised(&mut self.state.store, cause, process)?;
         Ok(Stepped::Raised(place))
     }

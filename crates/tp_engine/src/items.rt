@@ -30,7 +30,7 @@ fn cut_choices(choices: &mut Vec<Choice>, stamp: u64)
 
 impl<'a> Machine<'a> {
     ghost use Rattle.tp_engine.specs.declared.machine.Alt.{Alt};
-    ghost use Rattle.tp_engine.specs.Machine.{Steps, Resumes};
+    ghost use Rattle.tp_engine.specs.Machine.{IsMachine, Steps, Resumes};
     ghost use Rattle.tp_engine.specs.Meets.{Runs, HasFirst};
     ghost use Rattle.tp_engine.specs.Goes.{MayKeep, IsKept, Returns};
 
@@ -70,7 +70,8 @@ impl<'a> Machine<'a> {
 
     /// The choices from a stamp on are removed.
     fn commit(&mut self, _process: usize, stamp: u64, rest: Option<ItemId>) -> Stepped
-        requires { HasFirst self.old _process (Item.Commit stamp) rest }
+        requires machine { IsMachine self.old }
+        requires first { HasFirst self.old _process (Item.Commit stamp) rest }
         ensures { Steps self.old self.new result }
     {
         self.state.items = rest;
@@ -88,7 +89,8 @@ impl<'a> Machine<'a> {
         goal: Ref,
         rest: Option<ItemId>,
     ) -> Result<Stepped, NoMemory>
-        requires { HasFirst self.old _process (Item.Retry goal) rest }
+        requires machine { IsMachine self.old }
+        requires first { HasFirst self.old _process (Item.Retry goal) rest }
         ensures { IfOk result (Steps self.old self.new) }
     {
         self.keep(Alt::Second)?;

@@ -58,10 +58,12 @@ impl<'a> Machine<'a> {
         requires goal { GoalFits atoms goal.now }
         ensures begun { IfOk result (λ found. IfSome found (λ m. IsBegun m)) }
         ensures program { IfOk result (λ found. IfSome found (λ m.
-            (m.base ≡ base.entry) × (m.goal ≡ goal.entry) × (m.atoms ≡ atoms))) }
+            (m.base.now ≡ base.now) × (m.goal.now ≡ goal.now) × (m.atoms ≡ atoms))) }
         ensures none { IfOk result (λ found.
             IfNone found (body (goal_term atoms goal.now) ≡ None)) }
     {
+        // Its contract says what holds of every base.
+        let _cells = base.cells();
         let Some(state) = State::start(alloc, goal)? else {
             return Ok(None);
         };

@@ -39,10 +39,10 @@ impl<'a> Machine<'a> {
         requires { IsUnmarked self.old }
         ensures { IfOk result (Steps self.old self.new) }
     {
-        let Some(slot) = self.state.slots.first() else {
+        let Some(time) = self.state.next_time() else {
             return Ok(self.stop());
         };
-        if self.state.is_any_late(slot.time) {
+        if self.state.is_any_late(time) {
             return Ok(Stepped::Dead(DeadCause::Late));
         }
         self.take_entry()

@@ -12,7 +12,7 @@ ghost use Rattle.tp_clauses.specs.Contents.{AreBelow};
 ghost use Rattle.tp_engine.specs.State.{plain_of};
 ghost use Rattle.tp_engine.specs.Program.{goal_term};
 ghost use Rattle.tp_engine.specs.Start.{IsPlaced, IsStart, waiting_at};
-ghost use Rattle.tp_engine.specs.Acts.{is_marked, is_live, is_late, mark, mark_others};
+ghost use Rattle.tp_engine.specs.Acts.{IsNextTime, is_marked, is_live, is_late, mark, mark_others};
 
 use crate::boxes::copy_boxes;
 use crate::frames::{Frames, Item};
@@ -21,7 +21,7 @@ use tp_history::Events;
 use tp_parse::ReadTerm;
 use tp_store::Store;
 use tp_terms::symbols::MAIN;
-use tp_terms::{Event, EventKind, ItemId, Limit, NoMemory, Proc, ProcStatus, Ref, Slot};
+use tp_terms::{AtomId, Event, EventKind, ItemId, Limit, NoMemory, Proc, ProcStatus, Ref, Slot};
 
 /// The contents of one world. `plain_of` of specs/State.antt is what they stand for.
 #[derive(Drop)]
@@ -296,6 +296,24 @@ impl State {
         let slot = self.slots.remove(0);
         self.clock = slot.time;
         slot.pid
+    }
+
+    /// The name of a process.
+    pub fn name_of(&self, pid: usize) -> AtomId
+        requires { pid < length self.now.procs.items }
+        ensures { (q : Proc) → slice_get self.now.procs.items pid ≡ Some q → result ≡ q.name }
+    {
+        self.procs[pid].name
+    }
+
+    /// The time of the first entry of the calendar.
+    pub fn next_time(&self) -> Option<i64>
+        ensures { IsNextTime self.now.slots.items result }
+    {
+        match self.slots.first() {
+            Some(slot) => Some(slot.time),
+            None => None,
+        }
     }
 
     /// The first process that is parked and marked.

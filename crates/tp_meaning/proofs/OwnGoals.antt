@@ -1,3 +1,4 @@
 -- The goals that the language has of its own.
 pub mod Found
 pub mod Reserved
+pub mod Counts

@@ -1,0 +1,8 @@
+-- Steps of the machine are those of its world.
+pub mod Parts
+pub mod First
+pub mod Control
+pub mod Items
+pub mod Schedule
+pub mod Raise
+pub mod Clauses

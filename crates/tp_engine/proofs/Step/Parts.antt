@@ -1,0 +1,266 @@
+-- From a world that the machine goes on to, to a step of the machine.
+use Rattle.std.proofs.Common.{◌≡◌, ℕ, ◌+◌, ◌<◌, ◌≤◌, List, [], ◌∷◌, ◌++◌, map, length, take, reverse, Some, None, All, Vec, Global, refl, ap, sym, subst, ◌∙◌, arith}
+use Rattle.std.proofs.lemmas.List.{reverse-append}
+use Rattle.std.proofs.lemmas.List.Elements.{All-take, All-push}
+use Rattle.std.specs.List.{AllByRecursion}
+use Rattle.tp_terms.specs.declared.cells.Ref.{Ref}
+use Rattle.tp_terms.specs.declared.text.Named.{Named}
+use Rattle.tp_terms.specs.Term.{Name, Term}
+use Rattle.tp_terms.specs.Shown.{AreNamed}
+use Rattle.tp_terms.specs.Names.{IsTable, Grows}
+use Rattle.tp_terms.proofs.NameLemmas.{Grows-same, Grows-length}
+use Rattle.tp_terms.proofs.ShownLemmas.{AreNamed-longer}
+use Rattle.tp_meaning.specs.World.{World}
+use Rattle.tp_meaning.specs.Clauses.{Base}
+use Rattle.tp_meaning.specs.Turn.{Gives, one}
+use Rattle.tp_meaning.specs.Search as search
+use Rattle.tp_meaning.specs.Step.{step, searched}
+use Rattle.tp_meaning.specs.Machine as machine
+use Rattle.tp_meaning.specs.Machine.{State, Went, stepped, stepped_by, with_choice, cut_from}
+use Rattle.tp_meaning.proofs.Stack.{HasStack, stepped-stack, stack_with}
+use Rattle.tp_meaning.proofs.Holds.{Holds, ChoiceHolds, Stands, stepped-stands, step-rises}
+use Rattle.tp_parse.specs.declared.read.ReadTerm.{ReadTerm}
+use Rattle.tp_clauses.specs.Contents as kept
+use Rattle.tp_clauses.specs.Contents.{IsBase, base_of}
+use Rattle.tp_engine.specs.declared.machine.Alt.{Alt}
+use Rattle.tp_engine.specs.declared.machine.Choice.{Choice}
+use Rattle.tp_engine.specs.declared.machine.Machine.{Machine}
+use Rattle.tp_engine.specs.declared.state.State as code
+use Rattle.tp_engine.specs.declared.phase.Stepped.{Stepped}
+use Rattle.tp_engine.specs.declared.phase.Stepped.TheVariants as answer
+use Rattle.tp_store.specs.Contents.{seen}
+use Rattle.tp_engine.specs.State.{plain_of}
+use Rattle.tp_engine.specs.Plain.{Plain, world_of}
+use Rattle.tp_engine.specs.Stands.{PlainStands}
+use Rattle.tp_engine.specs.Program.{GoalFits, goal_term}
+use Rattle.tp_engine.specs.Machine.{IsProgram, SameProgram, ChoiceFits, GoesOn, choice_of, open_at, waiting_of, IsMachine, Steps, Resumes, ErrorStands, base_in, world_in, open_in, state_in, choices_of, answer_by}
+use Rattle.tp_engine.specs.Goes.{KeepsWorlds, IsKept, MayKeep, Goes, Returns, untried_in}
+use Rattle.tp_engine.proofs.Program.{base_fits}
+use Rattle.tp_engine.proofs.Worlds.Names.{base-later, choices-later, choice-later}
+
+-- the machine's state, where it didn't go back
+pub state_is : (m : Machine) → m.waiting ≡ None → state_in m ≡ record { world = world_in m; choices = choices_of m.atoms (base_in m) m.choices.items }
+state_is m e = ap (λ o. record { world = world_in m; choices = waiting_of (base_in m) (world_in m) m.stamp o ++ choices_of m.atoms (base_in m) m.choices.items }) e
+
+-- a machine that goes on from another by a step, with these choices
+pub record Follows (old new : Machine) (r : Stepped) : Type 0 where
+  pub is : IsMachine old
+  pub waiting : new.waiting ≡ None
+  pub base : new.base.now ≡ old.base.now
+  pub goal : new.goal.now ≡ old.goal.now
+  pub names : Grows old.atoms new.atoms
+  pub table : IsTable new.atoms
+  pub stands : PlainStands new.atoms (plain_of new.state)
+  pub choices : All (ChoiceFits old.atoms (base_in old)) new.choices.items
+  pub bound : new.stamp ≤ old.stamp + 1
+  pub place : ErrorStands new r
+  pub step : (answer_by new r, record { world = world_in new; choices = choices_of old.atoms (base_in old) new.choices.items }) ≡ stepped (searched (base_in old)) (state_in old)
+
+-- the base means the same under a longer table
+pub meaning : (old new : Machine) → IsProgram old → new.base.now ≡ old.base.now → Grows old.atoms new.atoms → base_in new ≡ base_in old
+meaning old new p e g = ap (base_of new.atoms) e ∙ base-later old.atoms new.atoms g old.base.now p.named
+
+program-later : (old new : Machine) → IsProgram old → new.base.now ≡ old.base.now → new.goal.now ≡ old.goal.now → Grows old.atoms new.atoms → IsTable new.atoms → IsProgram new
+program-later old new p eb eg g t =
+    let longer = Grows-length old.atoms new.atoms g in
+    record {
+      table = t;
+      base = subst IsBase (sym eb) p.base;
+      named = subst (λ (b : kept.Contents). AreNamed (length new.atoms) b.cells) (sym eb) (AreNamed-longer (length old.atoms) (length new.atoms) old.base.now.cells longer p.named);
+      goal = subst (GoalFits new.atoms) (sym eg) (record {
+        root = p.goal.root;
+        atoms = AreNamed-longer (length old.atoms) (length new.atoms) old.goal.now.cells.items longer p.goal.atoms;
+        variables = p.goal.variables;
+        named = p.goal.named;
+      });
+    }
+
+pub steps : (old new : Machine) (r : Stepped) → Follows old new r → Steps old new r
+steps old new r f =
+    let x = searched (base_in old) in
+    let p = f.is.program in
+    let same : base_in new ≡ base_in old = meaning old new p f.base f.names in
+    let later = choices-later old.atoms new.atoms f.names (base_in old) new.choices.items f.choices in
+    let here : state_in new ≡ record { world = world_in new; choices = choices_of old.atoms (base_in old) new.choices.items } =
+        state_is new f.waiting ∙ ap (λ b. record { world = world_in new; choices = choices_of new.atoms b new.choices.items }) same ∙ ap (λ cs. record { world = world_in new; choices = cs }) later in
+    let e : (answer_by new r, state_in new) ≡ stepped x (state_in old) = ap (λ (s : State World). (answer_by new r, s)) here ∙ f.step in
+    let fits = base_fits old p in
+    let rises = step-rises (base_in old) (world_in old) fits f.is.worlds.world.valid in
+    record {
+      machine = record {
+        going = f.waiting;
+        program = program-later old new p f.base f.goal f.names f.table;
+        stands = f.stands;
+        choices = subst (λ b. All (ChoiceFits new.atoms b) new.choices.items) (sym same) (λ k d lt. choice-later old.atoms new.atoms f.names (base_in old) _ (f.choices k d lt));
+        worlds = subst (λ (g : ReadTerm). Holds (Stands g.vars) (state_in new)) (sym f.goal) (subst (Holds (Stands old.goal.now.vars)) (sym (ap (λ (q : machine.Stepped Term × State World). q.1) e)) (stepped-stands (base_in old) old.goal.now.vars (state_in old) fits f.is.worlds));
+        stack = subst (λ b. HasStack (searched b) (state_in new)) (sym same) (subst (HasStack x) (sym (ap (λ (q : machine.Stepped Term × State World). q.1) e)) (stepped-stack x (state_in old) rises f.is.stack));
+      };
+      same = record { base = f.base; goal = f.goal; names = f.names };
+      meaning = same;
+      step = e;
+      bound = f.bound;
+      place = f.place;
+    }
+
+-- ---- the kinds of steps
+
+-- to one world
+pub to_one : (old new : Machine) → IsMachine old → Goes old new → step (base_in old) (world_in old) ≡ one (world_in new) → Steps old new answer.Went
+to_one old new is g h = steps old new answer.Went (record {
+  is = is;
+  waiting = ap (λ (m : Machine). m.waiting) g.same ∙ is.going;
+  base = ap (λ (m : Machine). m.base.now) g.same;
+  goal = ap (λ (m : Machine). m.goal.now) g.same;
+  names = g.names;
+  table = g.table;
+  stands = g.stands;
+  choices = subst (λ (cs : Vec Choice Global). All (ChoiceFits old.atoms (base_in old)) cs.items) (sym (ap (λ (m : Machine). m.choices) g.same)) is.choices;
+  bound = omega (arith, g.stamp);
+  place = tt;
+  step = ap (λ (cs : Vec Choice Global). (Went, record { world = world_in new; choices = choices_of old.atoms (base_in old) cs.items })) (ap (λ (m : Machine). m.choices) g.same)
+      ∙ sym (ap (stepped (searched (base_in old))) (state_is old is.going) ∙ ap (λ s. stepped_by (searched (base_in old)) s (record { world = world_in old; choices = choices_of old.atoms (base_in old) old.choices.items })) h);
+})
+
+-- to a world after a choice was kept
+pub to_branch : (old mid new : Machine) (next : Alt) → IsMachine old → IsKept old next mid → Goes mid new → step (base_in old) (world_in old) ≡ search.Branch (world_in new) (untried_in old next) → Steps old new answer.Went
+to_branch old mid new next is k g h = steps old new answer.Went (record {
+  is = is;
+  waiting = ap (λ (m : Machine). m.waiting) g.same ∙ ap (λ (m : Machine). m.waiting) k.same ∙ is.going;
+  base = ap (λ (m : Machine). m.base.now) g.same ∙ ap (λ (m : Machine). m.base.now) k.same;
+  goal = ap (λ (m : Machine). m.goal.now) g.same ∙ ap (λ (m : Machine). m.goal.now) k.same;
+  names = subst (λ (ns : List Name). Grows ns new.atoms) (ap (λ (m : Machine). m.atoms) k.same) g.names;
+  table = g.table;
+  stands = g.stands;
+  choices = subst (λ (cs : Vec Choice Global). All (ChoiceFits old.atoms (base_in old)) cs.items) (sym (ap (λ (m : Machine). m.choices) g.same)) k.fits;
+  bound = omega (arith, g.stamp, ap (λ (m : Machine). m.stamp) k.same);
+  place = tt;
+  step = ap (λ (cs : Vec Choice Global). (Went, record { world = world_in new; choices = choices_of old.atoms (base_in old) cs.items })) (ap (λ (m : Machine). m.choices) g.same)
+      ∙ ap (λ cs. (Went, record { world = world_in new; choices = cs })) k.kept
+      ∙ sym (ap (stepped (searched (base_in old))) (state_is old is.going) ∙ ap (λ s. stepped_by (searched (base_in old)) s (record { world = world_in old; choices = choices_of old.atoms (base_in old) old.choices.items })) h);
+})
+
+-- a dead end, or the end
+pub to_none : (m : Machine) (r : Stepped) (a : machine.Stepped Term) (g : Gives) → IsMachine m → answer_by m r ≡ a → ErrorStands m r → step (base_in m) (world_in m) ≡ g → (a, state_in m) ≡ stepped_by (searched (base_in m)) g (state_in m) → Steps m m r
+to_none m r a g is ea place h e = record {
+  machine = is;
+  same = record { base = refl; goal = refl; names = Grows-same m.atoms };
+  meaning = refl;
+  step = ap (λ b. (b, state_in m)) ea ∙ e ∙ sym (ap (λ s. stepped_by (searched (base_in m)) s (state_in m)) h);
+  bound = omega arith;
+  place = place;
+}
+
+-- a commit to a stamp, after the choices from it on were removed
+pub to_commit : (old new : Machine) (c n : ℕ) → IsMachine old → new ≡ record old { state = new.state; choices = new.choices; stamp = new.stamp } → new.stamp ≡ old.stamp + 1 → PlainStands old.atoms (plain_of new.state)
+    → choices_of old.atoms (base_in old) new.choices.items ≡ cut_from c (choices_of old.atoms (base_in old) old.choices.items) → new.choices.items ≡ take n old.choices.items
+    → step (base_in old) (world_in old) ≡ search.Commit c (world_of old.atoms (plain_of new.state) new.stamp) → Steps old new answer.Went
+to_commit old new c n is same stamp stands cut first h = steps old new answer.Went (record {
+  is = is;
+  waiting = ap (λ (m : Machine). m.waiting) same ∙ is.going;
+  base = ap (λ (m : Machine). m.base.now) same;
+  goal = ap (λ (m : Machine). m.goal.now) same;
+  names = subst (λ (ns : List Name). Grows old.atoms ns) (sym atoms) (Grows-same old.atoms);
+  table = subst IsTable (sym atoms) is.program.table;
+  stands = subst (λ (ns : List Name). PlainStands ns (plain_of new.state)) (sym atoms) stands;
+  choices = subst (All (ChoiceFits old.atoms (base_in old))) (sym first) (All-take (ChoiceFits old.atoms (base_in old)) n old.choices.items is.choices);
+  bound = omega (arith, stamp);
+  place = tt;
+  step = ap (λ (ns : List Name). (Went, record { world = world_of ns (plain_of new.state) new.stamp; choices = choices_of old.atoms (base_in old) new.choices.items })) atoms
+      ∙ ap (λ cs. (Went, record { world = world_of old.atoms (plain_of new.state) new.stamp; choices = cs })) cut
+      ∙ sym (ap (stepped (searched (base_in old))) (state_is old is.going) ∙ ap (λ s. stepped_by (searched (base_in old)) s (record { world = world_in old; choices = choices_of old.atoms (base_in old) old.choices.items })) h);
+})
+  where
+    atoms : new.atoms ≡ old.atoms
+    atoms = ap (λ (m : Machine). m.atoms) same
+
+-- an error, after its term was built
+pub to_raise : (m new : Machine) (place : Ref) (e : Term) → IsMachine m → new ≡ record m { state = new.state } → PlainStands m.atoms (plain_of new.state) → world_of m.atoms (plain_of new.state) m.stamp ≡ world_in m
+    → seen m.atoms new.state.store place.at ≡ e → place.at < length new.state.store.cells → step (base_in m) (world_in m) ≡ search.Raise e → Steps m new (answer.Raised place)
+to_raise m new place e is same stands w shown within h = steps m new (answer.Raised place) (record {
+  is = is;
+  waiting = ap (λ (q : Machine). q.waiting) same ∙ is.going;
+  base = ap (λ (q : Machine). q.base.now) same;
+  goal = ap (λ (q : Machine). q.goal.now) same;
+  names = subst (λ (ns : List Name). Grows m.atoms ns) (sym atoms) (Grows-same m.atoms);
+  table = subst IsTable (sym atoms) is.program.table;
+  stands = subst (λ (ns : List Name). PlainStands ns (plain_of new.state)) (sym atoms) stands;
+  choices = subst (λ (cs : Vec Choice Global). All (ChoiceFits m.atoms (base_in m)) cs.items) (sym (ap (λ (q : Machine). q.choices) same)) is.choices;
+  bound = omega (arith, ap (λ (q : Machine). q.stamp) same);
+  place = within;
+  step = ap (λ (q : Machine). (machine.Raised (seen q.atoms new.state.store place.at), record { world = world_of q.atoms (plain_of new.state) q.stamp; choices = choices_of m.atoms (base_in m) q.choices.items })) same
+      ∙ ap (λ t. (machine.Raised t, record { world = world_of m.atoms (plain_of new.state) m.stamp; choices = choices_of m.atoms (base_in m) m.choices.items })) shown
+      ∙ ap (λ v. (machine.Raised e, record { world = v; choices = choices_of m.atoms (base_in m) m.choices.items })) w
+      ∙ sym (ap (stepped (searched (base_in m))) (state_is m is.going) ∙ ap (λ s. stepped_by (searched (base_in m)) s (record { world = world_in m; choices = choices_of m.atoms (base_in m) m.choices.items })) h);
+})
+  where
+    atoms : new.atoms ≡ m.atoms
+    atoms = ap (λ (q : Machine). q.atoms) same
+
+-- the machine goes on from the choice that it went back to, after a choice of the worlds that are left was kept
+pub resumes : (m mid new : Machine) (next : Alt) (more : List World) → Returns m next → KeepsWorlds m more mid → Goes mid new → untried_in m next ≡ world_in new ∷ more → Resumes (record m { waiting = Some next }) new
+resumes m mid new next more back k g e =
+    let is = back.machine in
+    let x = searched (base_in m) in
+    let w = world_in m in
+    let cs = choices_of m.atoms (base_in m) m.choices.items in
+    let eb : new.base.now ≡ m.base.now = ap (λ (q : Machine). q.base.now) g.same ∙ ap (λ (q : Machine). q.base.now) k.same in
+    let eg : new.goal.now ≡ m.goal.now = ap (λ (q : Machine). q.goal.now) g.same ∙ ap (λ (q : Machine). q.goal.now) k.same in
+    let grows : Grows m.atoms new.atoms = subst (λ (ns : List Name). Grows ns new.atoms) (ap (λ (q : Machine). q.atoms) k.same) g.names in
+    let waiting : new.waiting ≡ None = ap (λ (q : Machine). q.waiting) g.same ∙ ap (λ (q : Machine). q.waiting) k.same ∙ is.going in
+    let same : base_in new ≡ base_in m = meaning m new is.program eb grows in
+    let fits : All (ChoiceFits m.atoms (base_in m)) new.choices.items = subst (λ (ds : Vec Choice Global). All (ChoiceFits m.atoms (base_in m)) ds.items) (sym (ap (λ (q : Machine). q.choices) g.same)) k.fits in
+    let later = choices-later m.atoms new.atoms grows (base_in m) new.choices.items fits in
+    let kept : choices_of m.atoms (base_in m) new.choices.items ≡ with_choice m.stamp w more cs = ap (λ (ds : Vec Choice Global). choices_of m.atoms (base_in m) ds.items) (ap (λ (q : Machine). q.choices) g.same) ∙ k.kept in
+    let here : state_in new ≡ record { world = world_in new; choices = with_choice m.stamp w more cs } =
+        state_is new waiting ∙ ap (λ b. record { world = world_in new; choices = choices_of new.atoms b new.choices.items }) same ∙ ap (λ ds. record { world = world_in new; choices = ds }) (later ∙ kept) in
+    let old : state_in (record m { waiting = Some next }) ≡ record { world = w; choices = record { stamp = m.stamp; world = w; untried = world_in new ∷ more } ∷ cs } =
+        ap (λ ws. record { world = w; choices = record { stamp = m.stamp; world = w; untried = ws } ∷ cs }) e in
+    let resumed_is : state_in new ≡ machine.resumed (state_in (record m { waiting = Some next })) = here ∙ sym (ap machine.resumed old) in
+    let stamp : new.stamp ≡ m.stamp + 1 = g.stamp ∙ ap (λ (q : Machine). q.stamp + 1) k.same in
+    let these = subst (AllByRecursion (Stands m.goal.now.vars)) e back.worlds.1 in
+    let stamps = subst (AllByRecursion (λ (v : World). v.stamp ≡ m.stamp + 1)) e back.open_.next in
+    let rest : Holds (Stands m.goal.now.vars) (record { world = w; choices = cs }) = subst (Holds (Stands m.goal.now.vars)) (state_is m is.going) is.worlds in
+    let stack : HasStack x (record { world = w; choices = cs }) = subst (HasStack x) (state_is m is.going) is.stack in
+    record {
+      machine = record {
+        going = waiting;
+        program = program-later m new is.program eb eg grows g.table;
+        stands = g.stands;
+        choices = subst (λ b. All (ChoiceFits new.atoms b) new.choices.items) (sym same) (λ k' d lt. choice-later m.atoms new.atoms grows (base_in m) _ (fits k' d lt));
+        worlds = subst (λ (q : ReadTerm). Holds (Stands q.vars) (state_in new)) (sym eg) (subst (Holds (Stands m.goal.now.vars)) (sym here) (record {
+          world = these.0;
+          choices = with-hold m.goal.now.vars m.stamp w more cs is.worlds.world these.1 rest.choices;
+        }));
+        stack = subst (λ b. HasStack (searched b) (state_in new)) (sym same) (subst (HasStack x) (sym here)
+          (stack_with x m.stamp w (world_in new) more cs refl stamps.0 stamps.1 stack));
+      };
+      same = record { base = eb; goal = eg; names = grows };
+      meaning = same;
+      resumed = resumed_is;
+      bound = stamp;
+    }
+  where
+    with-hold : (n d : ℕ) (w : World) (more : List World) (cs : List (machine.Choice World)) → Stands n w → AllByRecursion (Stands n) more → AllByRecursion (ChoiceHolds (Stands n)) cs → AllByRecursion (ChoiceHolds (Stands n)) (with_choice d w more cs)
+    with-hold n d w [] cs p a h = h
+    with-hold n d w (v ∷ more) cs p a h = ((p, a), h)
+
+-- ---- a choice that is kept
+
+pub keeps : (m : Machine) (next : Alt) (s : code.State) (new : Vec Choice Global) → MayKeep m next → plain_of s ≡ plain_of m.state → new.items ≡ m.choices.items ++ record { stamp = m.stamp; state = s; next = next } ∷ [] → IsKept m next (record m { choices = new })
+keeps m next s new may e items =
+    let c : Choice = record { stamp = m.stamp; state = s; next = next } in
+    let P = ChoiceFits m.atoms (base_in m) in
+    let fits : ChoiceFits m.atoms (base_in m) c = record { stands = subst (PlainStands m.atoms) (sym e) may.stands; next = subst (λ (p : Plain). GoesOn m.atoms (base_in m) p next) (sym e) may.goes_on } in
+    let open_is : choice_of m.atoms (base_in m) c ≡ open_at (base_in m) (world_in m) m.stamp next = ap (λ (p : Plain). open_at (base_in m) (world_of m.atoms p m.stamp) m.stamp next) e in
+    record {
+      same = refl;
+      plain = refl;
+      fits = subst (All P) (sym items) (All-push P m.choices.items c may.choices fits);
+      kept = ap (choices_of m.atoms (base_in m)) items ∙ ap (map (choice_of m.atoms (base_in m))) (reverse-append m.choices.items (c ∷ []))
+          ∙ ap (λ k. k ∷ choices_of m.atoms (base_in m) m.choices.items) open_is
+          ∙ sym (with_left m.stamp (world_in m) (untried_in m next) (choices_of m.atoms (base_in m) m.choices.items) may.left);
+    }
+  where
+    with_left : (d : ℕ) (w : World) (ws : List World) (cs : List (machine.Choice World)) → 0 < length ws → with_choice d w ws cs ≡ record { stamp = d; world = w; untried = ws } ∷ cs
+    with_left d w [] cs lt = absurd (omega arith)
+    with_left d w (v ∷ ws) cs lt = refl

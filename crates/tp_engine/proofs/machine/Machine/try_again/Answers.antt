@@ -1,0 +1,12 @@
+use Rattle.tp_engine.proofs.Step.Items.{tries, may_again, rest_there}
+use Rattle.tp_engine.proofs.machine.Machine.try_again.Goals as goal
+
+pub keep-requires : goal.keep-requires
+keep-requires c = may_again c.args.self.now c.args._process c.args.goal c.args.rest c.requires.machine c.requires.first
+
+pub push-requires : goal.push-requires
+push-requires c = rest_there c.args.self.now c.args._process c.args.goal c.args.rest c.requires.machine c.requires.first c.keep.new.self c.in_ok-keep.ensures
+
+pub returns : goal.returns
+returns c =
+    tries c.args.self.now c.args._process c.args.goal c.args.rest c.requires.machine c.requires.first c.keep.new.self c.push.new.self c.push-2.new.self c.in_ok-keep.ensures c.in_ok-push.ensures c.in_ok-push-2.ensures
