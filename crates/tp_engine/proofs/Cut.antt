@@ -48,7 +48,7 @@ module _ (names : List Name) (base : Base) (stamp : ℕ) where
       let at : slice_get xs (length xs - 1) ≡ Some x = ap (λ ys. slice_get ys (length ys - 1)) e ∙ last-is front x in
       let le : nat_le stamp x.stamp ≡ true = ap (λ o. elim o as (λ _. Bool) [ None ↦ false | Some c ↦ nat_le stamp c.stamp ]) (sym at) ∙ h in
       sym (ap (λ ys. cut_from stamp (choices_of names base ys)) e ∙ ap (cut_from stamp) (newest front x)
-        ∙ ap (λ b. cond b (choice_of names base x ∷ choices_of names base front) (cut_from stamp (choices_of names base front))) (not-below stamp x.stamp le))
+      ∙ ap (λ b. cond b (choice_of names base x ∷ choices_of names base front) (cut_from stamp (choices_of names base front))) (not-below stamp x.stamp le))
 
   -- where it has a lower one, nothing is
   pub cut_done : (xs : List Choice) → newest_from stamp xs ≡ false → cut_from stamp (choices_of names base xs) ≡ choices_of names base xs

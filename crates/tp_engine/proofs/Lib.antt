@@ -10,3 +10,8 @@ pub mod Step
 mod GoalsMet
 mod Cut
 mod Matched
+pub mod Later
+pub mod SamePrograms
+pub mod Calls
+pub mod Finds
+pub mod GoalsRead

@@ -45,7 +45,7 @@ module _ (m : Machine) (t : Task) (c : Call) (is : IsStanding m) (ids : List Cla
     hit_is cells found e met =
         view_hits m.atoms m.base.now.cells v is.program.base.built fits m.state.store t.goal.at found
         (subst (λ cs. found ≡ is_some (unifier m.atoms m.state.store t.goal.at (head_term m.atoms cs v))) e
-          (met m.atoms (record { distinct = is.program.table.distinct; named = is.stands.atoms }) (subst (AreNamed (length m.atoms)) (sym e) is.program.named)))
+        (met m.atoms (record { distinct = is.program.table.distinct; named = is.stands.atoms }) (subst (AreNamed (length m.atoms)) (sym e) is.program.named)))
 
 -- what the test of an empty list tells
 pub is_none : (n : ℕ) (r : Bool) → r ≡ (n == 0) → r ≡ true → n ≡ 0

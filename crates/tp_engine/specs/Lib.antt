@@ -1,4 +1,5 @@
 pub mod Program
+pub mod Code
 pub mod Lists
 pub mod Boxes
 pub mod Plain
@@ -13,3 +14,8 @@ pub mod Machine
 pub mod Meets
 pub mod Goes
 pub mod Start
+pub mod Told
+pub mod Phases
+pub mod Answers
+pub mod Ended
+pub mod Run

@@ -1,86 +1,156 @@
--- Turns of a run: one step, and the way back where it failed.
-use Rattle.std.specs.Prelude.{◌≡◌, ℕ, suc, ◌+◌, ◌<◌, ◌≤◌, List, [], ◌∷◌, ◌++◌, length, Option, Some, None, ◌⊎◌}
-use Rattle.tp_terms.specs.declared.text.Named.{Named}
+-- A run under way.
+use Rattle.std.specs.Prelude.{◌≡◌, ℕ, ◌+◌, ◌<◌, ◌≤◌, List, [], ◌∷◌, length, Option, Some, None, IfSome, ◌⊎◌}
 use Rattle.tp_terms.specs.Term.{Term}
 use Rattle.tp_meaning.specs.World.{World}
 use Rattle.tp_meaning.specs.Search as search
-use Rattle.tp_meaning.specs.Search.{Outcome}
-use Rattle.tp_meaning.specs.Machine.{machine_of, ended, back}
+use Rattle.tp_meaning.specs.Search.{Outcome, try}
+use Rattle.tp_meaning.specs.Machine.{State, Turn, GoesOn, Ends, machine_of, started, ended, closed, one_more, answer_more, dead_more, turn_by, turned, back_to}
 use Rattle.tp_meaning.specs.Step.{step, searched}
+use Rattle.tp_meaning.specs.declared.DeadCause.{DeadCause}
+use Rattle.tp_meaning.specs.declared.DeadCause.TheVariants.{Failed, Deadlock, Late}
 use Rattle.tp_meaning.proofs.Turns.{total}
-use Rattle.tp_store.specs.Contents.{seen}
 use Rattle.tp_engine.specs.declared.answers.AnswerFault.{AnswerFault}
 use Rattle.tp_engine.specs.declared.answers.AnswerFault.TheVariants as why
 use Rattle.tp_engine.specs.declared.machine.Machine.{Machine}
-use Rattle.tp_engine.specs.declared.program.Program.{Program}
+use Rattle.tp_engine.specs.declared.phase.Stepped.{Stepped}
+use Rattle.tp_engine.specs.declared.phase.Stepped.TheVariants as answer
+use Rattle.tp_engine.specs.declared.run.Ended.{Ended}
 use Rattle.tp_engine.specs.declared.run.How.{How}
 use Rattle.tp_engine.specs.declared.run.How.TheVariants.{NoMore, Stopped, Raised, Budget}
-use Rattle.tp_engine.specs.declared.turns.Tally.{Tally}
-use Rattle.tp_engine.specs.Answers.{Answer, numbered, HasShown}
-use Rattle.tp_engine.specs.Fits.{base_in}
-use Rattle.tp_engine.specs.Machine.{IsMachine, state_in, world_in}
+use Rattle.tp_engine.specs.declared.tally.Tally.{Tally}
+use Rattle.tp_engine.specs.Answers.{Answer, Took, numbered}
+use Rattle.tp_engine.specs.Ended.{RaisedStands, after_turns, end_of}
+use Rattle.tp_engine.specs.Machine.{IsMachine, SameProgram, answer_by, base_in, state_in, world_in}
+use Rattle.tp_engine.specs.Told.{seen_of}
 
--- what was found so far, with these answers
-abbrev pub tally_of : Tally → List (World × ℕ) → Outcome World Term
-tally_of c answers = record { answers = answers; steps = c.steps; failed = c.failed; deadlock = c.deadlock; late = c.late; how = search.Fails None }
+-- ---- counts
 
--- what is found in all with n more steps, k answers being wanted
-abbrev pub total_in : Program → Machine → Tally → List (World × ℕ) → ℕ → ℕ → Outcome World Term
-total_in p m c answers n k = total (searched (base_in p)) (machine_of (state_in p m) (tally_of c answers)) n k
+abbrev pub died_in : DeadCause → Tally → Tally
+died_in Failed c = record c { steps = c.steps + 1; failed = c.failed + 1 }
+died_in Deadlock c = record c { steps = c.steps + 1; deadlock = c.deadlock + 1 }
+died_in Late c = record c { steps = c.steps + 1; late = c.late + 1 }
 
--- an end as the search has it
-abbrev pub end_by : Program → Machine → How → search.End Term
-end_by p m NoMore = search.Fails None
-end_by p m Stopped = search.Stopped
-end_by p m (Raised term clock) = search.Raised (seen p.atoms m.state.store term.at) clock
-end_by p m Budget = search.Budget
+-- the counts after a step with this answer
+abbrev pub counted : Stepped → Tally → Tally
+counted answer.Went c = record c { steps = c.steps + 1 }
+counted answer.Success c = record c { steps = c.steps + 1; found = c.found + 1 }
+counted (answer.Dead cause) c = died_in cause c
+counted (answer.Raised place) c = record c { steps = c.steps + 1 }
 
--- no count of dead ends is above the number of steps
+-- no count is above the number of steps
 pub record CountsFit (c : Tally) : Type 0 where
+  pub found : c.found ≤ c.steps
   pub failed : c.failed ≤ c.steps
   pub deadlock : c.deadlock ≤ c.steps
   pub late : c.late ≤ c.steps
 
--- where the machine stands at an end
-abbrev pub StandsIn : Program → Machine → List (World × ℕ) → ℕ → Option How → Type 0
-StandsIn p m more steps None = Unit {0}
-StandsIn p m more steps (Some NoMore) = Unit {0}
-StandsIn p m more steps (Some Stopped) = more ≡ (world_in p m, steps) ∷ []
-StandsIn p m more steps (Some (Raised term clock)) = (step (base_in p) (world_in p m) ≡ search.Raise (seen p.atoms m.state.store term.at)) × (m.state.clock ≡ clock) × (term.at < length m.state.store.cells)
-StandsIn p m more steps (Some Budget) = Unit {0}
+-- what was found so far, with these answers
+abbrev pub tally_of : Tally → List (World × ℕ) → Outcome World Term
+tally_of c answers = record {
+  answers = answers;
+  steps = c.steps;
+  failed = c.failed;
+  deadlock = c.deadlock;
+  late = c.late;
+  how = search.Fails None;
+}
 
--- a turn that goes on keeps what is found in all, and one that ends gives it
-abbrev pub KeepsAll : Program → Machine → Machine → Tally → Tally → List (World × ℕ) → List (World × ℕ) → ℕ → ℕ → Option How → Type 0
-KeepsAll p old new c d before after n k None = (total_in p new d after n k ≡ total_in p old c before (suc n) k) × (length after < k)
-KeepsAll p old new c d before after n k (Some how) = ended (end_by p new how) (tally_of d after) ≡ total_in p old c before (suc n) k
+-- what is found after a step with this answer, which led to this world
+abbrev pub found_by : Stepped → World → Outcome World Term → Outcome World Term
+found_by answer.Went w t = one_more t
+found_by answer.Success w t = answer_more w t
+found_by (answer.Dead cause) w t = dead_more cause t
+found_by (answer.Raised place) w t = one_more t
 
-pub record Turns {A : Type 0} (shown : A → Option (List ℕ)) (adds : A → Answer → List ℕ) (p : Program) (vars : List Named) (k : ℕ) (old : Machine) (c : Tally) (before : A) (new : Machine) (d : Tally) (now : A) (how : Option How) : Type 0 where
-  pub more : List (World × ℕ)
-  pub machine : IsMachine p new
-  pub stamp : new.stamp ≤ old.stamp + 1
-  pub steps : d.steps ≡ c.steps + 1
-  pub found : d.found ≡ c.found + length more
-  pub fit : CountsFit d
-  pub told : HasShown shown adds before now (numbered vars c.found more)
-  pub stands : StandsIn p new more d.steps how
-  pub kept : (answers : List (World × ℕ)) (n : ℕ) → length answers ≡ c.found → KeepsAll p old new c d answers (answers ++ more) n k how
+-- ---- turns
 
--- the answer that a machine stands at, as it was counted
-abbrev pub answer_by : Program → List Named → Machine → Tally → Answer
-answer_by p vars m c = record { world = world_in p m; number = c.found; steps = c.steps; named = vars }
-
--- the answer that a machine stands at, before it is counted
-abbrev pub answer_at : Program → List Named → Machine → Tally → Answer
-answer_at p vars m c = record { world = world_in p m; number = c.found + 1; steps = c.steps + 1; named = vars }
-
--- A turn met a fault: want of memory before or after it showed its answer, or a fault of what takes answers.
-abbrev pub CutAt : {A : Type 0} → (A → Option (List ℕ)) → (A → Answer → List ℕ) → (A → Answer → AnswerFault → A → Type 0) → Program → List Named → Machine → Tally → AnswerFault → A → A → Type 0
-CutAt shown adds leaves p vars m c fault before now =
-    ((fault ≡ why.NoMemory) × HasShown shown adds before now [])
-    ⊎ ((step (base_in p) (world_in p m) ≡ search.Success)
-    × (((fault ≡ why.NoMemory) × HasShown shown adds before now (answer_at p vars m c ∷ [])) ⊎ leaves before (answer_at p vars m c) fault now))
+-- a turn that goes on with a machine, or ends where it stands
+abbrev pub turn_to : Machine → Option How → Outcome World Term → Turn World Term
+turn_to m None t = GoesOn (machine_of (state_in m) t)
+turn_to m (Some how) t = Ends (ended (end_of (seen_of m (length t.answers) t.steps) how) t)
 
 -- back at the newest choice and on with it, or at the end
-abbrev pub Backs : Program → Machine → Option How → Machine → Type 0
-Backs p old None new = (back (state_in p old) ≡ Some (state_in p new)) × IsMachine p new × (new.stamp ≤ old.stamp)
-Backs p old (Some how) new = (back (state_in p old) ≡ None) × IsMachine p new × (new.stamp ≡ old.stamp) × (how ≡ NoMore)
+pub record GoesBack (old : Machine) (how : Option How) (new : Machine) : Type 0 where
+  pub machine : IsMachine new
+  pub same : SameProgram old new
+  pub meaning : base_in new ≡ base_in old
+  pub bound : new.stamp ≤ old.stamp
+  pub stays : IfSome how (λ h. (h ≡ NoMore) × (state_in new ≡ state_in old))
+  pub turn : (t : Outcome World Term) → back_to t (state_in old) ≡ turn_to new how t
+
+-- where a machine stands that ended a run after a step with this answer, which led to this world
+abbrev pub EndsAt : Machine → Stepped → World → How → Type 0
+EndsAt m r w NoMore = Unit {0}
+EndsAt m r w Stopped = (r ≡ answer.Success) × (w ≡ world_in m)
+EndsAt m r w (Raised term clock) = RaisedStands (seen_of m 0 0) (Raised term clock)
+EndsAt m r w Budget = ⊥
+
+-- a step is followed by what the definitions' machine does after it, so many answers having been found
+pub record Follows (r : Stepped) (found wanted : ℕ) (old : Machine) (how : Option How) (new : Machine) : Type 0 where
+  pub machine : IsMachine new
+  pub same : SameProgram old new
+  pub meaning : base_in new ≡ base_in old
+  pub bound : new.stamp ≤ old.stamp
+  pub stays : IfSome how (λ _. (r ≡ answer.Went → ⊥) × (state_in new ≡ state_in old))
+  pub ends : IfSome how (EndsAt new r (world_in old))
+  pub turn : (t : Outcome World Term) → found ≡ length (found_by r (world_in old) t).answers → turned (searched (base_in old)) wanted (answer_by old r) (state_in old) t ≡ turn_to new how (found_by r (world_in old) t)
+
+-- the answer that is the next one of a machine, where a step leads to this world
+abbrev pub next_answer : Machine → Tally → World → Answer
+next_answer m c w = record {
+  world = w;
+  number = c.found + 1;
+  steps = c.steps + 1;
+  named = m.goal.now.named;
+  ops = m.base.now.ops;
+}
+
+-- it is an answer where the step answered so
+abbrev pub answers_by : Stepped → Answer → List Answer
+answers_by answer.Success a = a ∷ []
+answers_by _ a = []
+
+-- a turn is that of the definitions' machine
+pub record Turns {A : Type 0} (takes : A → Answer → A → Type 0) (wanted : ℕ) (old : Machine) (c : Tally) (before : A) (new : Machine) (d : Tally) (now : A) (how : Option How) : Type 0 where
+  pub answer : Stepped
+  pub world : World
+  pub machine : IsMachine new
+  pub same : SameProgram old new
+  pub meaning : base_in new ≡ base_in old
+  pub bound : new.stamp ≤ old.stamp + 1
+  pub counts : d ≡ counted answer c
+  pub fit : CountsFit d
+  pub took : Took takes before (answers_by answer (next_answer old c world)) now
+  pub stays : IfSome how (λ _. state_in new ≡ state_in old)
+  pub ends : IfSome how (EndsAt new answer world)
+  pub turn : (t : Outcome World Term) → length t.answers ≡ c.found → turn_by (searched (base_in old)) wanted (step (base_in old) (world_in old)) (machine_of (state_in old) t) ≡ turn_to new how (found_by answer world t)
+
+-- A turn met a fault: want of memory before or after its answer was taken, or a fault of what takes answers.
+pub record IsCutAt {A : Type 0} (takes : A → Answer → A → Type 0) (leaves : A → Answer → AnswerFault → A → Type 0) (old : Machine) (c : Tally) (fault : AnswerFault) (before now : A) (new : Machine) : Type 0 where
+  pub same : SameProgram old new
+  pub write : fault ≡ why.Write → IsMachine new
+  pub cut :
+      ((fault ≡ why.NoMemory) × (now ≡ before))
+      ⊎ ((step (base_in old) (world_in old) ≡ search.Success)
+      × (((fault ≡ why.NoMemory) × takes before (next_answer old c (world_in old)) now)
+      ⊎ leaves before (next_answer old c (world_in old)) fault now))
+
+-- ---- the run
+
+-- These answers were found so far and taken. As many turns of the definitions' machine lead here, and from here the
+-- search finds what it finds in all.
+pub record IsRun {A : Type 0} (takes : A → Answer → A → Type 0) (start : Machine) (wanted : ℕ) (before : A) (m : Machine) (c : Tally) (now : A) : Type 0 where
+  pub answers : List (World × ℕ)
+  pub count : length answers ≡ c.found
+  pub machine : IsMachine m
+  pub same : SameProgram start m
+  pub meaning : base_in m ≡ base_in start
+  pub bound : m.stamp ≤ c.steps
+  pub fit : CountsFit c
+  pub few : c.found < wanted
+  pub took : Took takes before (numbered start.goal.now.named start.base.now.ops 0 answers) now
+  pub turns : after_turns (searched (base_in start)) wanted c.steps (started (world_in start)) ≡ GoesOn (machine_of (state_in m) (tally_of c answers))
+  pub kept : (n : ℕ) → total (searched (base_in start)) (machine_of (state_in m) (tally_of c answers)) n wanted ≡ closed (try (searched (base_in start)) (world_in start) (c.steps + n) wanted)
+
+abbrev pub ended_by : Tally → How → Ended
+ended_by c how = record { steps = c.steps; found = c.found; failed = c.failed; deadlock = c.deadlock; late = c.late; how = how }

@@ -3,26 +3,29 @@ use Rattle.std.specs.Prelude.{◌≡◌, ℕ, ◌+◌, ◌-◌, ◌<◌, ◌^◌
 use Rattle.std.specs.List.{AllByRecursion}
 use Rattle.tp_terms.specs.declared.cells.Ref.{Ref}
 use Rattle.tp_terms.specs.declared.text.Named.{Named}
-use Rattle.tp_terms.specs.declared.world.Event.{Event}
-use Rattle.tp_terms.specs.declared.world.EventKind.{EventKind}
-use Rattle.tp_terms.specs.declared.world.EventKind.TheVariants as kind
 use Rattle.tp_terms.specs.Term.{Name, Term}
 use Rattle.tp_terms.specs.Shown.{AreNamed}
-use Rattle.tp_terms.specs.Names.{IsTable}
+use Rattle.tp_terms.specs.Names.{IsTable, Grows}
 use Rattle.tp_terms.specs.Binds.{Fits}
 use Rattle.tp_meaning.specs.World.{World, start}
 use Rattle.tp_meaning.specs.Clauses.{Base}
 use Rattle.tp_meaning.specs.Machine as machine
+use Rattle.tp_meaning.specs.Machine.{IsStack}
+use Rattle.tp_meaning.specs.Step.{searched}
 use Rattle.tp_store.specs.Contents.{IsStore, seen}
 use Rattle.tp_parse.specs.declared.read.ReadTerm.{ReadTerm}
 use Rattle.tp_parse.specs.Ops.{Entries}
 use Rattle.tp_clauses.specs.Contents as kept
+use Rattle.tp_engine.specs.declared.machine.Machine.{Machine}
 use Rattle.tp_engine.specs.declared.phase.Phase.{Phase}
 use Rattle.tp_engine.specs.declared.phase.Phase.TheVariants as phase
 use Rattle.tp_engine.specs.declared.phase.Stepped.{Stepped}
 use Rattle.tp_engine.specs.declared.phase.Stepped.TheVariants as answer
 use Rattle.tp_engine.specs.Plain.{Plain, world_of}
 use Rattle.tp_engine.specs.Program.{goal_term}
+use Rattle.tp_engine.specs.Stands.{EventStands}
+use Rattle.tp_engine.specs.State.{plain_of}
+use Rattle.tp_engine.specs.Machine.{base_in, open_in}
 
 -- an engine's own state: the table of names, the plain contents and the stamp of its world, how many steps were
 -- answers, how many were made, the named variables of its goal, and the operators of its model
@@ -42,20 +45,6 @@ world_in s = world_of s.names s.plain s.stamp
 -- the term of a place
 abbrev pub seen_in : Snapshot → Ref → Term
 seen_in s r = seen s.names s.plain.store r.at
-
--- what an event speaks of is there: of so many names, cells and processes
-abbrev pub KindStands : ℕ → ℕ → ℕ → EventKind → Type 0
-KindStands names cells procs (kind.New name start end) = name.at < names
-KindStands names cells procs kind.Start = Unit {0}
-KindStands names cells procs (kind.Hold duration) = Unit {0}
-KindStands names cells procs (kind.Send message to) = (message.at < cells) × (to < procs)
-KindStands names cells procs (kind.Take message) = message.at < cells
-KindStands names cells procs (kind.Note term) = term.at < cells
-KindStands names cells procs kind.End = Unit {0}
-
-pub record EventStands (names cells procs : ℕ) (e : Event) : Type 0 where
-  pub process : e.pid < procs
-  pub kind : KindStands names cells procs e.kind
 
 -- What holds of an engine that met no want of memory: its store fits its cells, and all that it speaks of is there.
 pub record IsSound (s : Snapshot) : Type 0 where
@@ -78,6 +67,28 @@ pub record Told : Type 0 where
 abbrev pub state_of : Told → machine.State World
 state_of t = record { world = world_in t.seen; choices = t.choices }
 
+-- what is seen of a machine, with the numbers of answers and of steps
+abbrev pub seen_of : Machine → ℕ → ℕ → Snapshot
+seen_of m number steps = record {
+  names = m.atoms;
+  plain = plain_of m.state;
+  stamp = m.stamp;
+  number = number;
+  steps = steps;
+  named = m.goal.now.named;
+  ops = m.base.now.ops;
+}
+
+abbrev pub told_of : Phase → Machine → ℕ → ℕ → Told
+told_of phase m number steps = record {
+  base = base_in m;
+  seen = seen_of m number steps;
+  choices = open_in m;
+  phase = phase;
+}
+
+-- ---- steps
+
 -- the answer of a step, an error by its term
 abbrev pub answer_of : Snapshot → Stepped → machine.Stepped Term
 answer_of s answer.Went = machine.Went
@@ -87,22 +98,22 @@ answer_of s (answer.Raised place) = machine.Raised (seen_in s place)
 
 -- the place of an error is one of the cells
 abbrev pub PlaceStands : Snapshot → Stepped → Type 0
-PlaceStands s answer.Went = Unit {0}
-PlaceStands s answer.Success = Unit {0}
-PlaceStands s (answer.Dead cause) = Unit {0}
 PlaceStands s (answer.Raised place) = place.at < length s.plain.store.cells
+PlaceStands s _ = Unit {0}
 
 -- how many answers there are after a step
 abbrev pub number_after : Stepped → ℕ → ℕ
-number_after answer.Went n = n
 number_after answer.Success n = n + 1
-number_after (answer.Dead cause) n = n
-number_after (answer.Raised place) n = n
+number_after _ n = n
 
--- no call changes these
+-- Each choice has untried worlds, which have the stamp after its own, and these stamps fall from below this one.
+abbrev pub IsStacked : Told → ℕ → Type 0
+IsStacked t stamp = IsStack (searched t.base) stamp t.choices
+
+-- No call changes base, named variables and operators, and names are only added.
 pub record IsSame (old new : Told) : Type 0 where
   pub base : new.base ≡ old.base
-  pub names : new.seen.names ≡ old.seen.names
+  pub names : Grows old.seen.names new.seen.names
   pub named : new.seen.named ≡ old.seen.named
   pub ops : new.seen.ops ≡ old.seen.ops
 
@@ -133,57 +144,39 @@ pub record IsStarted (table : List Name) (clauses : kept.Contents) (goal : ReadT
 
 -- the engine met no want of memory
 abbrev pub IsWhole : Phase → Type 0
-IsWhole phase.New = Unit {0}
-IsWhole (phase.Stepped r) = Unit {0}
-IsWhole (phase.Rewound found) = Unit {0}
-IsWhole phase.Resumed = Unit {0}
-IsWhole phase.Ran = Unit {0}
 IsWhole phase.Broken = ⊥
+IsWhole _ = Unit {0}
 
 abbrev pub HasGone : Stepped → Type 0
 HasGone answer.Went = Unit {0}
-HasGone answer.Success = ⊥
-HasGone (answer.Dead cause) = ⊥
-HasGone (answer.Raised place) = ⊥
+HasGone _ = ⊥
 
 abbrev pub HasStopped : Stepped → Type 0
-HasStopped answer.Went = ⊥
 HasStopped answer.Success = Unit {0}
 HasStopped (answer.Dead cause) = Unit {0}
-HasStopped (answer.Raised place) = ⊥
+HasStopped _ = ⊥
 
 -- A step may come after `new`, `resume`, or a step that went on. After want of memory it may always come.
 abbrev pub MayStep : Phase → ℕ → Type 0
 MayStep phase.New steps = steps < 2 ^ 64 - 1
 MayStep (phase.Stepped r) steps = HasGone r × (steps < 2 ^ 64 - 1)
-MayStep (phase.Rewound found) steps = ⊥
 MayStep phase.Resumed steps = steps < 2 ^ 64 - 1
-MayStep phase.Ran steps = ⊥
 MayStep phase.Broken steps = Unit {0}
+MayStep _ steps = ⊥
 
 -- rewinding may come after a step that answered Success or Dead
 abbrev pub MayRewind : Phase → Type 0
-MayRewind phase.New = ⊥
 MayRewind (phase.Stepped r) = HasStopped r
-MayRewind (phase.Rewound found) = ⊥
-MayRewind phase.Resumed = ⊥
-MayRewind phase.Ran = ⊥
-MayRewind phase.Broken = ⊥
+MayRewind _ = ⊥
 
 -- resuming may come after rewinding to a choice, and after want of memory
 abbrev pub MayResume : Phase → Type 0
-MayResume phase.New = ⊥
-MayResume (phase.Stepped r) = ⊥
 MayResume (phase.Rewound found) = IsTrue found
-MayResume phase.Resumed = ⊥
-MayResume phase.Ran = ⊥
 MayResume phase.Broken = Unit {0}
+MayResume _ = ⊥
 
 -- a run may come after `new`, and after want of memory
 abbrev pub MayRun : Phase → Type 0
 MayRun phase.New = Unit {0}
-MayRun (phase.Stepped r) = ⊥
-MayRun (phase.Rewound found) = ⊥
-MayRun phase.Resumed = ⊥
-MayRun phase.Ran = ⊥
 MayRun phase.Broken = Unit {0}
+MayRun _ = ⊥

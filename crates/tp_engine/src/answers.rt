@@ -1,12 +1,12 @@
 //! What takes the answers of a run.
 
-ghost use Rattle.std.specs.Prelude.{◌≡◌, ℕ, ◌<◌, ◌≤◌, List, Option, Some, Err, length, map, slice_get, OnOk, IfErr};
+ghost use Rattle.std.specs.Prelude.{◌≡◌, ℕ, ◌≤◌, Err, OnOk, IfErr};
 ghost use Rattle.tp_outside.specs.Count.{Rose};
-ghost use Rattle.tp_outside.specs.Taken.{added};
 ghost use Rattle.tp_engine.specs.Told.{IsSound};
 ghost use Rattle.tp_engine.specs.Answers.{Answer, answer_in};
 ghost use Rattle.tp_engine.specs.declared.answers.AnswerFault.{AnswerFault};
 
+use crate::phase::Phase;
 use crate::view::AnswerView;
 use tp_terms::NoMemory;
 
@@ -30,13 +30,24 @@ impl From<NoMemory> for AnswerFault {
     }
 }
 
+impl AnswerFault {
+    ghost use Rattle.tp_engine.specs.Phases.{phase_after};
+
+    /// The phase of an engine whose run met this fault: after `Write` the view may be asked.
+    pub(crate) fn phase(self) -> Phase
+        ensures { result ≡ phase_after self }
+    {
+        match self {
+            AnswerFault::Write => Phase::Ran,
+            AnswerFault::NoMemory => Phase::Broken,
+        }
+    }
+}
+
 /// What takes answers, one at a time.
 pub trait Answers {
-    /// All that is shown, where it tells that.
-    ghost shown: { Self → Option (List ℕ) };
-
-    /// What one more answer adds to that.
-    ghost adds: { Self → Answer → List ℕ };
+    /// What stands after an answer was taken, by what stood before it.
+    ghost takes: { Self → Answer → Self → Type 0 };
 
     /// What may stand after a fault, by what stood before it, the answer and the fault.
     ghost leaves: { Self → Answer → AnswerFault → Self → Type 0 };
@@ -49,9 +60,8 @@ pub trait Answers {
     /// Answers `Write` only where the count of faults rose. A count that stands at its last value counts as risen.
     fn answer(&mut self, view: &AnswerView<'_>) -> Result<(), AnswerFault>
         requires { IsSound view.now }
-        ensures shown { OnOk result (shown self.new ≡ added (shown self.old) (adds self.old (answer_in view.now))) }
+        ensures taken { OnOk result (takes self.old (answer_in view.now) self.new) }
         ensures left { IfErr result (λ fault. leaves self.old (answer_in view.now) fault self.new) }
-        ensures same { adds self.new ≡ adds self.old }
         ensures never_falls { faults self.old ≤ faults self.new }
         ensures write { result ≡ Err AnswerFault.Write → Rose (faults self.old) (faults self.new) };
 }

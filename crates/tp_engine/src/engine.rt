@@ -6,13 +6,12 @@ ghost use Rattle.tp_meaning.specs.Body.{body};
 ghost use Rattle.tp_meaning.specs.Machine.{stepped, rewound, resumed};
 ghost use Rattle.tp_meaning.specs.Step.{searched};
 ghost use Rattle.tp_engine.specs.Program.{GoalFits, goal_term};
-ghost use Rattle.tp_engine.specs.Told.{IsStarted, IsSound, IsSame, IsCounted, IsUncounted, IsWhole, MayStep, MayRewind, MayResume, PlaceStands, answer_of, number_after, state_of};
+ghost use Rattle.tp_engine.specs.Told.{IsStarted, IsSound, IsSame, IsCounted, IsUncounted, IsStacked, IsWhole, MayStep, MayRewind, MayResume, PlaceStands, answer_of, number_after, state_of};
 ghost use Rattle.tp_engine.specs.declared.phase.Phase.{Phase};
 ghost use Rattle.tp_engine.specs.declared.start.StartFault.{StartFault};
 
 use crate::machine::Machine;
 use crate::phase::{Phase, Stepped};
-use crate::program::Program;
 use crate::start::StartFault;
 use crate::view::AnswerView;
 use std::alloc::Global;
@@ -24,8 +23,7 @@ use tp_terms::{Atoms, NoMemory};
 /// A search under way: one world, and the choices that stand open. Contracts see `Told` of specs/Told.antt.
 #[derive(Drop)]
 pub struct Engine<'a> {
-    pub(crate) program: Program<'a>,
-    pub(crate) machine: Machine,
+    pub(crate) machine: Machine<'a>,
     pub(crate) phase: Phase,
     pub(crate) steps: u64,
     pub(crate) number: u64,
@@ -41,18 +39,12 @@ impl<'a> Model for Engine<'a> {
 
     ghost coded = { Prim.hlevel (codes, term_code, terms_code) };
 
-    ghost use Rattle.tp_engine.specs.State.{plain_of};
-    ghost use Rattle.tp_engine.specs.Fits.{base_in};
-    ghost use Rattle.tp_engine.specs.Machine.{Keeps, open_in};
+    ghost use Rattle.tp_engine.specs.Told.{told_of};
+    ghost use Rattle.tp_engine.specs.Phases.{Keeps};
 
-    ghost view = { λ e. record {
-      base = base_in e.program;
-      seen = record { names = e.program.atoms; plain = plain_of e.machine.state; stamp = e.machine.stamp; number = e.number; steps = e.steps; named = e.program.goal.now.named; ops = e.program.base.now.ops };
-      choices = open_in e.program e.machine;
-      phase = e.phase;
-    } };
+    ghost view = { λ e. told_of e.phase e.machine e.number e.steps };
 
-    ghost invariant = { λ e. Keeps e.phase e.program e.machine e.steps e.number };
+    ghost invariant = { λ e. Keeps e.phase e.machine e.number e.steps };
 }
 
 /// How many answers there are after a step.
@@ -80,15 +72,14 @@ impl<'a> Engine<'a> {
         requires base { AreNamed (length atoms) base.now.cells }
         requires goal { GoalFits atoms goal.now }
         ensures started { IfOk result (IsStarted atoms base.entry.now goal.entry.now) }
+        ensures stack { IfOk result (λ e. IsStacked e e.seen.stamp) }
         ensures body { IfOk result (λ _. IsTrue (is_some (body (goal_term atoms goal.entry.now)))) }
         ensures no_body { result ≡ Err StartFault.Body → body (goal_term atoms goal.entry.now) ≡ None }
     {
-        let program = Program::new(base, goal, atoms);
-        let Some(machine) = Machine::start(alloc, &program)? else {
+        let Some(machine) = Machine::start(alloc, base, atoms, goal)? else {
             return Err(StartFault::Body);
         };
         Ok(Engine {
-            program,
             machine,
             phase: Phase::New,
             steps: 0,
@@ -99,15 +90,18 @@ impl<'a> Engine<'a> {
     /// One step of the world that the engine stands for. It may come after `new`, `resume` or a step that answered
     /// `Went`, where fewer than 18446744073709551615 steps were made.
     ///
-    /// Answers `NoMemory` where the memory for it isn't had. From then on `step`, `resume` and `run_to_end` answer
-    /// that, and may always come; for which world and choices the engine then stands is left open.
+    /// Answers `NoMemory` where the memory for it isn't had. The counts of steps and answers stay then. From then on
+    /// `step`, `resume` and `run_to_end` answer that, and may always come; for which world and choices the engine
+    /// stands is left open.
     pub fn step(&mut self) -> Result<Stepped, NoMemory>
         requires { MayStep self.old.phase self.old.seen.steps }
         ensures step { IfOk result (λ r. (answer_of self.new.seen r, state_of self.new) ≡ stepped (searched self.old.base) (state_of self.old)) }
+        ensures stack { OnOk result (IsStacked self.new self.new.seen.stamp) }
         ensures place { IfOk result (PlaceStands self.new.seen) }
         ensures counts { IfOk result (λ r. IsCounted r self.old self.new) }
         ensures phase { IfOk result (λ r. self.new.phase ≡ Phase.Stepped r) }
         ensures same { IsSame self.old self.new }
+        ensures uncounted { OnErr result (IsUncounted self.old self.new) }
         ensures broken { OnErr result (self.new.phase ≡ Phase.Broken) }
         ensures stays { self.old.phase ≡ Phase.Broken → IsErr result }
     {
@@ -115,7 +109,7 @@ impl<'a> Engine<'a> {
             return Err(NoMemory);
         }
         self.phase = Phase::Broken;
-        let stepped = self.machine.step(&self.program)?;
+        let stepped = self.machine.step()?;
         self.number = count_answer(stepped, self.number);
         self.steps += 1;
         self.phase = Phase::Stepped(stepped);
@@ -127,10 +121,11 @@ impl<'a> Engine<'a> {
     pub fn rewind(&mut self) -> bool
         requires { MayRewind self.old.phase }
         ensures back { (result, state_of self.new) ≡ rewound (state_of self.old) }
+        ensures stack { IsStacked self.new (self.new.seen.stamp + 1) }
         ensures phase { self.new.phase ≡ Phase.Rewound result }
         ensures rest { IsUncounted self.old self.new }
     {
-        let found = self.machine.rewind(&self.program);
+        let found = self.machine.rewind();
         self.phase = Phase::Rewound(found);
         found
     }
@@ -142,6 +137,7 @@ impl<'a> Engine<'a> {
     pub fn resume(&mut self) -> Result<(), NoMemory>
         requires { MayResume self.old.phase }
         ensures resumed { OnOk result (state_of self.new ≡ resumed (state_of self.old)) }
+        ensures stack { OnOk result (IsStacked self.new self.new.seen.stamp) }
         ensures phase { OnOk result (self.new.phase ≡ Phase.Resumed) }
         ensures rest { IsUncounted self.old self.new }
         ensures broken { OnErr result (self.new.phase ≡ Phase.Broken) }
@@ -151,7 +147,7 @@ impl<'a> Engine<'a> {
             return Err(NoMemory);
         }
         self.phase = Phase::Broken;
-        self.machine.resume(&self.program)?;
+        self.machine.resume()?;
         self.phase = Phase::Resumed;
         Ok(())
     }
@@ -161,14 +157,6 @@ impl<'a> Engine<'a> {
         ensures view { result ≡ self.now.seen }
         ensures sound { IsWhole self.now.phase → IsSound self.now.seen }
     {
-        AnswerView {
-            state: &self.machine.state,
-            atoms: &self.program.atoms,
-            named: self.program.goal.named.as_slice(),
-            ops: self.program.base.ops(),
-            stamp: self.machine.stamp,
-            number: self.number,
-            steps: self.steps,
-        }
+        AnswerView::of(&self.machine, self.number, self.steps)
     }
 }

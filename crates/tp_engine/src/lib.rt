@@ -2,9 +2,11 @@
 //! that an engine stands for, and `Told` of specs/Told.antt what contracts see of it.
 #![tactic(auto)]
 
+mod answers;
 mod boxes;
 mod clauses;
 mod control;
+mod engine;
 mod errors;
 mod frames;
 mod goals;
@@ -12,8 +14,21 @@ mod heads;
 mod items;
 mod machine;
 mod phase;
+mod run;
 mod schedule;
+mod start;
 mod state;
+mod tally;
 mod task;
+#[cfg(test)]
+mod tests;
+mod turns;
+mod view;
 
+pub use answers::{AnswerFault, Answers};
+pub use engine::Engine;
 pub use phase::{Phase, Stepped};
+pub use run::{Ended, How};
+pub use start::StartFault;
+pub use tp_meaning::DeadCause;
+pub use view::AnswerView;

@@ -1,6 +1,6 @@
 //! One current world, and the choices that stand open.
 
-ghost use Rattle.std.specs.Prelude.{◌≡◌, ◌<◌, ◌^◌, ◌-◌, IfOk, OnOk, IfSome, IfNone, length};
+ghost use Rattle.std.specs.Prelude.{◌≡◌, ◌<◌, ◌^◌, ◌-◌, IfOk, OnOk, OnErr, IfSome, IfNone, length};
 ghost use Rattle.tp_terms.specs.Shown.{AreNamed};
 ghost use Rattle.tp_meaning.specs.Body.{body};
 ghost use Rattle.tp_engine.specs.Program.{GoalFits, goal_term};
@@ -45,7 +45,7 @@ pub struct Machine<'a> {
 }
 
 impl<'a> Machine<'a> {
-    ghost use Rattle.tp_engine.specs.Machine.{IsMachine, IsBegun, IsBack, Steps, Rewinds, Resumes};
+    ghost use Rattle.tp_engine.specs.Machine.{IsMachine, IsBegun, IsBack, SameProgram, Steps, Rewinds, Resumes};
 
     /// The start of the goal, where it has a body.
     pub fn start(
@@ -82,7 +82,8 @@ impl<'a> Machine<'a> {
     pub fn step(&mut self) -> Result<Stepped, NoMemory>
         requires machine { IsMachine self.old }
         requires few { self.old.stamp < 2 ^ 64 - 1 }
-        ensures { IfOk result (Steps self.old self.new) }
+        ensures stepped { IfOk result (Steps self.old self.new) }
+        ensures same { OnErr result (SameProgram self.old self.new) }
     {
         match self.state.running {
             None => self.schedule(),
@@ -111,7 +112,8 @@ impl<'a> Machine<'a> {
     pub fn resume(&mut self) -> Result<(), NoMemory>
         requires back { IsBack self.old }
         requires few { self.old.stamp < 2 ^ 64 - 1 }
-        ensures { OnOk result (Resumes self.old self.new) }
+        ensures resumed { OnOk result (Resumes self.old self.new) }
+        ensures same { OnErr result (SameProgram self.old self.new) }
     {
         let Some(next) = self.waiting.take() else {
             unreachable!()

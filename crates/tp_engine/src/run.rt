@@ -1,13 +1,13 @@
 //! A whole run of an engine.
 
-ghost use Rattle.tp_engine.specs.Fits.{ProgramFits};
-ghost use Rattle.tp_engine.specs.Machine.{IsMachine};
-ghost use Rattle.tp_engine.specs.Found.{FindsIn, ended_by, outcome_in};
 ghost use Rattle.std.specs.Prelude.{◌≡◌, ◌≤◌, ◌<◌, [], Err, IfOk, IfErr, OnOk, OnErr};
 ghost use Rattle.tp_outside.specs.Count.{Rose};
-ghost use Rattle.tp_engine.specs.Answers.{HasShown, IsCutShort, numbered};
-ghost use Rattle.tp_engine.specs.Ended.{Finds, outcome_of};
-ghost use Rattle.tp_engine.specs.Told.{IsSame, MayRun};
+ghost use Rattle.tp_engine.specs.Machine.{IsMachine, SameProgram};
+ghost use Rattle.tp_engine.specs.Answers.{IsCutShort, Took, numbered};
+ghost use Rattle.tp_engine.specs.Ended.{Finds, Reaches, outcome_of};
+ghost use Rattle.tp_engine.specs.Phases.{phase_after};
+ghost use Rattle.tp_engine.specs.Run.{ended_by};
+ghost use Rattle.tp_engine.specs.Told.{IsSame, IsUncounted, MayRun, told_of};
 ghost use Rattle.tp_engine.specs.declared.phase.Phase.{Phase};
 ghost use Rattle.tp_engine.specs.declared.answers.AnswerFault.{AnswerFault};
 
@@ -15,8 +15,7 @@ use crate::answers::{AnswerFault, Answers};
 use crate::engine::Engine;
 use crate::machine::Machine;
 use crate::phase::Phase;
-use crate::program::Program;
-use crate::turns::{Tally, turn};
+use crate::tally::Tally;
 use tp_terms::Ref;
 
 /// How a run ends.
@@ -70,22 +69,31 @@ fn summed(tally: Tally, how: How) -> Ended
 
 /// Turns, until the search ends.
 fn search<A: Answers>(
-    machine: &mut Machine,
-    program: &Program<'_>,
+    machine: &mut Machine<'_>,
     budget: u64,
     wanted: u64,
     answers: &mut A,
 ) -> Result<Ended, AnswerFault>
-    requires program { ProgramFits program.now }
-    requires machine { IsMachine program.now machine.old }
+    requires machine { IsMachine machine.old }
     requires choices { machine.old.choices.items ≡ [] }
     requires stamp { machine.old.stamp ≤ 0 }
     requires wanted { 0 < wanted }
-    ensures found { IfOk result (FindsIn program.now (outcome_in program.now machine.old budget wanted) machine.new) }
-    ensures machine { OnOk result (IsMachine program.now machine.new) }
-    ensures shown { OnOk result (HasShown A.shown A.adds answers.old answers.new (numbered program.now.goal.now.named 0 (outcome_in program.now machine.old budget wanted).answers)) }
-    ensures cut { IfErr result (λ fault. IsCutShort A.shown A.adds A.leaves (numbered program.now.goal.now.named 0 (outcome_in program.now machine.old budget wanted).answers) fault answers.old answers.new) }
-    ensures adds { A.adds answers.new ≡ A.adds answers.old }
+    ensures found { IfOk result (λ e.
+        Finds (outcome_of (told_of Phase.New machine.old 0 0) budget wanted)
+        (told_of Phase.Ran machine.new e.found e.steps) e) }
+    ensures reached { IfOk result (λ e.
+        Reaches (told_of Phase.New machine.old 0 0) wanted
+        (told_of Phase.Ran machine.new e.found e.steps) e) }
+    ensures took { OnOk result (Took A.takes answers.old
+        (numbered machine.old.goal.now.named machine.old.base.now.ops 0
+        (outcome_of (told_of Phase.New machine.old 0 0) budget wanted).answers) answers.new) }
+    ensures cut { IfErr result (λ fault. IsCutShort A.takes A.leaves
+        (numbered machine.old.goal.now.named machine.old.base.now.ops 0
+        (outcome_of (told_of Phase.New machine.old 0 0) budget wanted).answers)
+        fault answers.old answers.new) }
+    ensures same { SameProgram machine.old machine.new }
+    ensures machine { OnOk result (IsMachine machine.new) }
+    ensures refused { IfErr result (λ fault. fault ≡ AnswerFault.Write → IsMachine machine.new) }
     ensures never_falls { A.faults answers.old ≤ A.faults answers.new }
     ensures write { result ≡ Err AnswerFault.Write → Rose (A.faults answers.old) (A.faults answers.new) }
 {
@@ -97,7 +105,7 @@ fn search<A: Answers>(
         late: 0,
     };
     'turns: while tally.steps < budget {
-        if let Some(how) = turn(machine, program, &mut tally, wanted, answers)? {
+        if let Some(how) = machine.turn(&mut tally, wanted, answers)? {
             return Ok(summed(tally, how));
         }
     }
@@ -108,8 +116,12 @@ impl<'a> Engine<'a> {
     /// Searches with so many steps for so many answers, at least one, and hands each answer to `answers` as it is
     /// found. It may come after `new`.
     ///
+    /// Afterwards the engine stands at the last answer that was wanted, at the world whose step raised the error, at
+    /// the last dead end or answer where there are no more, or at the world whose step would be the next.
+    ///
     /// A fault of `answers` ends the run at once with that fault. Answers `NoMemory` also where the memory for the
-    /// search isn't had, and from then on.
+    /// search isn't had, and from then on. After `Write` only the view may be asked. A fault leaves the counts of steps
+    /// and answers as they were.
     pub fn run_to_end<A: Answers>(
         &mut self,
         budget: u64,
@@ -119,23 +131,35 @@ impl<'a> Engine<'a> {
         requires run { MayRun self.old.phase }
         requires wanted { 0 < wanted }
         ensures found { IfOk result (Finds (outcome_of self.old budget wanted) self.new) }
-        ensures shown { OnOk result (HasShown A.shown A.adds answers.old answers.new (numbered self.old.seen.named 0 (outcome_of self.old budget wanted).answers)) }
-        ensures cut { IfErr result (λ fault. IsCutShort A.shown A.adds A.leaves (numbered self.old.seen.named 0 (outcome_of self.old budget wanted).answers) fault answers.old answers.new) }
-        ensures adds { A.adds answers.new ≡ A.adds answers.old }
+        ensures reached { IfOk result (Reaches self.old wanted self.new) }
+        ensures took { OnOk result (Took A.takes answers.old
+            (numbered self.old.seen.named self.old.seen.ops 0 (outcome_of self.old budget wanted).answers)
+            answers.new) }
+        ensures cut { IfErr result (λ fault. IsCutShort A.takes A.leaves
+            (numbered self.old.seen.named self.old.seen.ops 0 (outcome_of self.old budget wanted).answers)
+            fault answers.old answers.new) }
         ensures never_falls { A.faults answers.old ≤ A.faults answers.new }
         ensures write { result ≡ Err AnswerFault.Write → Rose (A.faults answers.old) (A.faults answers.new) }
         ensures same { IsSame self.old self.new }
+        ensures uncounted { OnErr result (IsUncounted self.old self.new) }
         ensures phase { OnOk result (self.new.phase ≡ Phase.Ran) }
+        ensures fault { IfErr result (λ fault. self.new.phase ≡ phase_after fault) }
         ensures stays { self.old.phase ≡ Phase.Broken → result ≡ Err AnswerFault.NoMemory }
     {
         if let Phase::Broken = self.phase {
             return Err(AnswerFault::NoMemory);
         }
-        self.phase = Phase::Broken;
-        let ended = search(&mut self.machine, &self.program, budget, wanted, answers)?;
-        self.steps = ended.steps;
-        self.number = ended.found;
-        self.phase = Phase::Ran;
-        Ok(ended)
+        match search(&mut self.machine, budget, wanted, answers) {
+            Ok(ended) => {
+                self.steps = ended.steps;
+                self.number = ended.found;
+                self.phase = Phase::Ran;
+                Ok(ended)
+            }
+            Err(fault) => {
+                self.phase = fault.phase();
+                Err(fault)
+            }
+        }
     }
 }

@@ -2,6 +2,7 @@
 
 ghost use Rattle.std.specs.Prelude.{◌≡◌, ℕ, ◌<◌, length, map, slice_get, Some};
 
+use crate::machine::Machine;
 use crate::state::State;
 use std::marker::Model;
 use tp_history::Events;
@@ -36,6 +37,23 @@ impl<'v> Model for AnswerView<'v> {
 }
 
 impl<'v> AnswerView<'v> {
+    ghost use Rattle.tp_engine.specs.Told.{seen_of};
+
+    /// What is seen of a machine that found so many answers in so many steps.
+    pub(crate) fn of(machine: &'v Machine<'_>, number: u64, steps: u64) -> AnswerView<'v>
+        ensures { result ≡ seen_of machine.now number steps }
+    {
+        AnswerView {
+            state: &machine.state,
+            atoms: &machine.atoms,
+            named: machine.goal.named.as_slice(),
+            ops: machine.base.ops(),
+            stamp: machine.stamp,
+            number,
+            steps,
+        }
+    }
+
     /// How many steps were answers.
     pub fn number(&self) -> u64
         ensures { result ≡ self.now.number }

@@ -1,0 +1,159 @@
+-- What holds of an engine, by the call that was the last.
+use Rattle.std.proofs.Common.{◌≡◌, ℕ, ◌+◌, ◌-◌, ◌<◌, ◌≤◌, ◌^◌, Bool, true, false, Result, Ok, Err, OnErr, List, length, All, refl, ap, sym, subst, ◌∙◌, arith}
+use Rattle.std.specs.List.{AllByRecursion}
+use Rattle.tp_meaning.specs.Machine.{IsStack}
+use Rattle.tp_meaning.specs.Step.{searched}
+use Rattle.tp_meaning.proofs.Places.{all-weaker}
+use Rattle.tp_meaning.proofs.Stack.{HasStack, HasStackUpTo, stack_above, rewound-stack}
+use Rattle.tp_terms.specs.declared.world.Proc.{Proc}
+use Rattle.tp_store.proofs.FitsLemmas.{Fits-store}
+use Rattle.tp_engine.specs.declared.answers.AnswerFault.{AnswerFault}
+use Rattle.tp_engine.specs.declared.answers.AnswerFault.TheVariants as why
+use Rattle.tp_engine.specs.declared.machine.Machine.{Machine}
+use Rattle.tp_engine.specs.declared.phase.Phase.{Phase}
+use Rattle.tp_engine.specs.declared.phase.Phase.TheVariants as phase
+use Rattle.tp_engine.specs.declared.phase.Stepped.{Stepped}
+use Rattle.tp_engine.specs.declared.phase.Stepped.TheVariants as answer
+use Rattle.tp_engine.specs.Machine.{IsMachine, IsBack, IsProgram, SameProgram, RewindsTo, Rewinds, Resumes, Steps, base_in, open_in, state_in}
+use Rattle.tp_engine.specs.Phases.{IsReady, IsFresh, IsRewound, Keeps, phase_after}
+use Rattle.tp_engine.specs.Stands.{PlainStands, ProcStands}
+use Rattle.tp_engine.specs.State.{plain_of}
+use Rattle.tp_engine.specs.Told.{MayStep, MayRewind, MayResume, MayRun, IsWhole, IsSound, IsSame, IsCounted, IsUncounted, Told, number_after, seen_of, told_of}
+use Rattle.tp_engine.proofs.Later.{base_stays}
+
+-- what holds holds after an error
+pub on_err : {T E P : Type 0} (r : Result T E) → P → OnErr r P
+on_err (Ok x) p = tt
+on_err (Err e) p = p
+
+-- ---- which call may come
+
+module _ (m : Machine) (number steps : ℕ) where
+  pub record MaySteps : Type 0 where
+    pub ready : IsReady m number steps
+    pub few : steps < 2 ^ 64 - 1
+
+  pub may_step : (ph : Phase) → MayStep ph steps → Keeps ph m number steps → (ph ≡ phase.Broken → ⊥) → MaySteps
+  may_step phase.New may k whole = record { ready = k.ready; few = may }
+  may_step (phase.Stepped r) may k whole = record { ready = k; few = may.1 }
+  may_step (phase.Rewound found) may k whole = absurd may
+  may_step phase.Resumed may k whole = record { ready = k; few = may }
+  may_step phase.Ran may k whole = absurd may
+  may_step phase.Broken may k whole = absurd (whole refl)
+
+  pub may_rewind : (ph : Phase) → MayRewind ph → Keeps ph m number steps → IsReady m number steps
+  may_rewind phase.New may k = absurd may
+  may_rewind (phase.Stepped r) may k = k
+  may_rewind (phase.Rewound found) may k = absurd may
+  may_rewind phase.Resumed may k = absurd may
+  may_rewind phase.Ran may k = absurd may
+  may_rewind phase.Broken may k = absurd may
+
+  pub may_resume : (ph : Phase) → MayResume ph → Keeps ph m number steps → (ph ≡ phase.Broken → ⊥) → IsRewound m number steps
+  may_resume phase.New may k whole = absurd may
+  may_resume (phase.Stepped r) may k whole = absurd may
+  may_resume (phase.Rewound true) may k whole = k
+  may_resume (phase.Rewound false) may k whole = absurd (cc)
+  may_resume phase.Resumed may k whole = absurd may
+  may_resume phase.Ran may k whole = absurd may
+  may_resume phase.Broken may k whole = absurd (whole refl)
+
+  pub may_run : (ph : Phase) → MayRun ph → Keeps ph m number steps → (ph ≡ phase.Broken → ⊥) → IsFresh m number steps
+  may_run phase.New may k whole = k
+  may_run (phase.Stepped r) may k whole = absurd may
+  may_run (phase.Rewound found) may k whole = absurd may
+  may_run phase.Resumed may k whole = absurd may
+  may_run phase.Ran may k whole = absurd may
+  may_run phase.Broken may k whole = absurd (whole refl)
+
+  -- ---- what holds after it
+
+  answers_after : (r : Stepped) → number_after r number ≤ number + 1
+  answers_after answer.Went = omega arith
+  answers_after answer.Success = omega arith
+  answers_after (answer.Dead cause) = omega arith
+  answers_after (answer.Raised place) = omega arith
+
+  pub stepped_keeps : (r : Stepped) (new : Machine) (n : ℕ) → IsReady m number steps → Steps m new r → n ≡ number_after r number → IsReady new n (steps + 1)
+  stepped_keeps r new n h s e = record {
+    machine = s.machine;
+    bound = (let b = h.bound in let l = s.bound in omega arith);
+    few = (let b = h.few in omega (arith, answers_after r, e));
+  }
+
+  pub rewound_keeps : (found : Bool) (new : Machine) → IsReady m number steps → RewindsTo m found new → Keeps (phase.Rewound found) new number steps
+  rewound_keeps true new h r = record { back = r.0; bound = (let b = h.bound in let l = r.1 in omega arith); few = h.few }
+  rewound_keeps false new h r = record { machine = r.0; bound = (let b = h.bound in let l = r.1 in omega arith); few = h.few }
+
+  pub resumed_keeps : (new : Machine) → IsRewound m number steps → Resumes m new → IsReady new number steps
+  resumed_keeps new h r = record { machine = r.machine; bound = (let b = h.bound in omega (arith, r.bound)); few = h.few }
+
+pub fault_keeps : (fault : AnswerFault) (m : Machine) (number steps : ℕ) → (fault ≡ why.Write → IsMachine m) → Keeps (phase_after fault) m number steps
+fault_keeps why.Write m number steps h = h refl
+fault_keeps why.NoMemory m number steps h = tt
+
+-- ---- stamps
+
+-- the choices of a machine that went back have stamps up to its own
+pub rewound_stack : (m new : Machine) (found : Bool) → IsMachine m → Rewinds m found new → IsStack (searched (base_in new)) (new.stamp + 1) (open_in new)
+rewound_stack m new found is r =
+    let x = searched (base_in m) in
+    let up : HasStackUpTo x (state_in m) = stack_above x m.stamp (m.stamp + 1) (open_in m) (omega arith) is.stack in
+    subst (λ b. HasStackUpTo (searched b) (state_in new)) (sym r.meaning) (subst (HasStackUpTo x) (sym (ap (λ z. z.1) r.back)) (rewound-stack x (state_in m) up))
+
+-- ---- what stays
+
+-- an engine over a machine with the same program, by what contracts saw of it before
+module _ (t : Told) (old new : Machine) (a b : Phase) (number steps : ℕ) (was : told_of a old number steps ≡ t) (h : IsProgram old) (same : SameProgram old new) where
+  pub same_told : (k l : ℕ) → IsSame t (told_of b new k l)
+  same_told k l = subst (λ (s : Told). IsSame s (told_of b new k l)) was (record {
+    base = base_stays old new h same;
+    names = same.names;
+    named = ap (λ g. g.now.named) same.goal;
+    ops = ap (λ c. c.now.ops) same.base;
+  })
+
+  pub uncounted : IsUncounted t (told_of b new number steps)
+  uncounted = record {
+    same = same_told number steps;
+    number = ap (λ (s : Told). s.seen.number) was;
+    steps = ap (λ (s : Told). s.seen.steps) was;
+  }
+
+  pub counted : (r : Stepped) (n : ℕ) → n ≡ number_after r number → IsCounted r t (told_of b new n (steps + 1))
+  counted r n e = record {
+    same = same_told n (steps + 1);
+    number = e ∙ ap (λ (s : Told). number_after r s.seen.number) was;
+    steps = ap (λ (s : Told). s.seen.steps + 1) was;
+  }
+
+-- ---- what an engine shows
+
+pub plain_sound : (m : Machine) (number steps : ℕ) → IsProgram m → PlainStands m.atoms (plain_of m.state) → m.goal.now.vars ≤ m.state.store.vars → IsSound (seen_of m number steps)
+plain_sound m number steps h s le = record {
+  table = h.table;
+  store = s.store;
+  fits = Fits-store m.state.store s.store;
+  atoms = s.atoms;
+  procs = all-weaker (ProcStands (length m.atoms) (length m.state.frames)) (λ (q : Proc). q.name.at < length m.atoms) (λ q k. k.name) m.state.procs.items s.procs;
+  events = s.events;
+  named = λ k d lt. let b = h.goal.named k d lt in omega (arith, b, le);
+}
+
+pub machine_sound : (m : Machine) (number steps : ℕ) → IsMachine m → IsSound (seen_of m number steps)
+machine_sound m number steps h = plain_sound m number steps h.program h.stands h.worlds.world.vars
+
+pub back_program : (m : Machine) → IsBack m → IsProgram m
+back_program m h = let p = h.machine.program in record { table = p.table; base = p.base; named = p.named; goal = p.goal }
+
+back_sound : (m : Machine) (number steps : ℕ) → IsBack m → IsSound (seen_of m number steps)
+back_sound m number steps h = plain_sound m number steps (back_program m h) h.machine.stands h.machine.worlds.world.vars
+
+pub keeps_sound : (m : Machine) (number steps : ℕ) (ph : Phase) → Keeps ph m number steps → IsWhole ph → IsSound (seen_of m number steps)
+keeps_sound m number steps phase.New k w = machine_sound m number steps k.ready.machine
+keeps_sound m number steps (phase.Stepped r) k w = machine_sound m number steps k.machine
+keeps_sound m number steps (phase.Rewound true) k w = back_sound m number steps k.back
+keeps_sound m number steps (phase.Rewound false) k w = machine_sound m number steps k.machine
+keeps_sound m number steps phase.Resumed k w = machine_sound m number steps k.machine
+keeps_sound m number steps phase.Ran k w = machine_sound m number steps k
+keeps_sound m number steps phase.Broken k w = absurd w

@@ -1,0 +1,8 @@
+use Rattle.std.proofs.Common.{length}
+use Rattle.tp_terms.proofs.NameLemmas.{Grows-length}
+use Rattle.tp_terms.proofs.ShownLemmas.{AreNamed-longer}
+use Rattle.tp_engine.proofs.tests.asks.Goals as goal
+
+pub starts-requires-clause-base : goal.starts-requires-clause-base
+starts-requires-clause-base c =
+    AreNamed-longer (length c.args.atoms) (length c.goal_of.new.atoms) c.args.base.now.cells (Grows-length c.args.atoms c.goal_of.new.atoms c.in_ok-goal.ensures.grows) c.requires
