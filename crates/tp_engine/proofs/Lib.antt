@@ -3,7 +3,7 @@ mod Raised
 pub mod HeadsMet
 pub mod Worlds
 pub mod Program
-pub mod Start
+pub mod Begun
 pub mod Rewound
 pub mod Marked
 pub mod Step

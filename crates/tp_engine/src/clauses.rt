@@ -48,7 +48,7 @@ impl<'a> Machine<'a> {
         ensures same { OnOk result (self.new ≡ self.old) }
         ensures found { IfOk result (λ r. r ≡ found_from self.old task call from) }
         ensures few { IfOk result (λ r. IfSome r (λ k. k < 2 ^ 63)) }
-        ensures same { OnErr result (SameProgram self.old self.new) }
+        ensures program { OnErr result (SameProgram self.old self.new) }
     {
         let count = self.places(call).len();
         for k in from..count {
@@ -66,7 +66,7 @@ impl<'a> Machine<'a> {
         requires machine { IsMachine self.old }
         requires call { Calls self.old task call None }
         ensures done { IfOk result (Steps self.old self.new) }
-        ensures same { OnErr result (SameProgram self.old self.new) }
+        ensures program { OnErr result (SameProgram self.old self.new) }
     {
         if self.places(call).is_empty() {
             return self.raise(task, Cause::Unknown(call.name, call.count));
@@ -84,7 +84,7 @@ impl<'a> Machine<'a> {
         requires machine { IsMachine self.old }
         requires call { Calls self.old task call None }
         ensures done { OnOk result (IsKept self.old (Alt.Clause from) self.new) }
-        ensures same { OnErr result (SameProgram self.old self.new) }
+        ensures program { OnErr result (SameProgram self.old self.new) }
     {
         match self.next_match(task, call, from)? {
             Some(next) => {
@@ -99,7 +99,7 @@ impl<'a> Machine<'a> {
     fn enter(&mut self, task: Task, call: Call, place: usize) -> Result<(), NoMemory>
         requires { Hits self.old task call place }
         ensures done { OnOk result (Enters self.old place self.new) }
-        ensures same { OnErr result (SameProgram self.old self.new) }
+        ensures program { OnErr result (SameProgram self.old self.new) }
     {
         let id = id_at(self.places(call), place);
         let clause = self.base.clause(id);
@@ -114,7 +114,7 @@ impl<'a> Machine<'a> {
     pub fn resume_clauses(&mut self, place: usize) -> Result<(), NoMemory>
         requires { Returns self.old (Alt.Clause place) }
         ensures done { OnOk result (Resumes (record self.old { waiting = Some (Alt.Clause place) }) self.new) }
-        ensures same { OnErr result (SameProgram self.old self.new) }
+        ensures program { OnErr result (SameProgram self.old self.new) }
     {
         let Some((task, call)) = self.current() else {
             unreachable!()

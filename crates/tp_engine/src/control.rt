@@ -26,7 +26,7 @@ impl<'a> Machine<'a> {
         requires machine { IsMachine self.old }
         requires call { Calls self.old task call (Some (Control goal)) }
         ensures done { IfOk result (Steps self.old self.new) }
-        ensures same { OnErr result (SameProgram self.old self.new) }
+        ensures program { OnErr result (SameProgram self.old self.new) }
     {
         match goal {
             ControlGoal::True => Ok(self.succeed(task, call)),
@@ -52,7 +52,7 @@ impl<'a> Machine<'a> {
         requires machine { IsMachine self.old }
         requires call { Calls self.old task call (Some (Control ControlGoal.Conjunction)) }
         ensures done { IfOk result (Steps self.old self.new) }
-        ensures same { OnErr result (SameProgram self.old self.new) }
+        ensures program { OnErr result (SameProgram self.old self.new) }
     {
         let second = self.argument(call, 1);
         self.state.items = task.rest;

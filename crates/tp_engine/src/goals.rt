@@ -43,7 +43,7 @@ impl<'a> Machine<'a> {
         requires machine { IsMachine self.old }
         requires meets { Meets self.old task }
         ensures done { IfOk result (Steps self.old self.new) }
-        ensures same { OnErr result (SameProgram self.old self.new) }
+        ensures program { OnErr result (SameProgram self.old self.new) }
     {
         match met(&self.state.store, task.goal) {
             Met::Unbound => self.raise(task, Cause::Unbound),
@@ -58,7 +58,7 @@ impl<'a> Machine<'a> {
         requires meets { Meets self.old task }
         requires call { IsCall self.old.atoms self.old.state.store task.goal call }
         ensures done { IfOk result (Steps self.old self.new) }
-        ensures same { OnErr result (SameProgram self.old self.new) }
+        ensures program { OnErr result (SameProgram self.old self.new) }
     {
         match goal_kind(call.name, call.count) {
             None => self.run_clauses(task, call),
@@ -71,7 +71,7 @@ impl<'a> Machine<'a> {
         requires machine { IsMachine self.old }
         requires call { Calls self.old task call (Some kind) }
         ensures done { IfOk result (Steps self.old self.new) }
-        ensures same { OnErr result (SameProgram self.old self.new) }
+        ensures program { OnErr result (SameProgram self.old self.new) }
     {
         match kind {
             GoalKind::Control(goal) => self.control(task, call, goal),
@@ -85,7 +85,7 @@ impl<'a> Machine<'a> {
         requires meets { Meets self.old task }
         requires cause { IsCause self.old task cause }
         ensures done { IfOk result (Steps self.old self.new) }
-        ensures same { OnErr result (SameProgram self.old self.new) }
+        ensures program { OnErr result (SameProgram self.old self.new) }
     {
         let process = self.state.name_of(task.process);
         let place = raised(&mut self.state.store, cause, process)?;

@@ -45,7 +45,7 @@ impl<'a> Machine<'a> {
     pub fn advance(&mut self, process: usize) -> Result<Stepped, NoMemory>
         requires { Runs self.old process }
         ensures done { IfOk result (Steps self.old self.new) }
-        ensures same { OnErr result (SameProgram self.old self.new) }
+        ensures program { OnErr result (SameProgram self.old self.new) }
     {
         let Some(first) = self.state.items else {
             return self.end(process);
@@ -68,7 +68,7 @@ impl<'a> Machine<'a> {
         requires runs { Runs self.old process }
         requires none { self.old.state.items ≡ None }
         ensures done { IfOk result (Steps self.old self.new) }
-        ensures same { OnErr result (SameProgram self.old self.new) }
+        ensures program { OnErr result (SameProgram self.old self.new) }
     {
         self.state.leave(process, ProcStatus::Ended);
         self.state.note(process, EventKind::End)?;
@@ -101,7 +101,7 @@ impl<'a> Machine<'a> {
         requires machine { IsMachine self.old }
         requires first { HasFirst self.old _process (Item.Retry goal) rest }
         ensures done { IfOk result (Steps self.old self.new) }
-        ensures same { OnErr result (SameProgram self.old self.new) }
+        ensures program { OnErr result (SameProgram self.old self.new) }
     {
         self.keep(Alt::Second)?;
         self.state.items = rest;
@@ -118,7 +118,7 @@ impl<'a> Machine<'a> {
     pub fn resume_second(&mut self) -> Result<(), NoMemory>
         requires { Returns self.old Alt.Second }
         ensures done { OnOk result (Resumes (record self.old { waiting = Some Alt.Second }) self.new) }
-        ensures same { OnErr result (SameProgram self.old self.new) }
+        ensures program { OnErr result (SameProgram self.old self.new) }
     {
         let Some(process) = self.state.running else {
             unreachable!()
@@ -135,7 +135,7 @@ impl<'a> Machine<'a> {
     pub fn keep(&mut self, next: Alt) -> Result<(), NoMemory>
         requires { MayKeep self.old next }
         ensures done { OnOk result (IsKept self.old next self.new) }
-        ensures same { OnErr result (SameProgram self.old self.new) }
+        ensures program { OnErr result (SameProgram self.old self.new) }
     {
         let alloc = *self.choices.allocator();
         let state = self.state.copy_all(alloc)?;

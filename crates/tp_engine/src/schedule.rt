@@ -16,7 +16,7 @@ impl<'a> Machine<'a> {
     pub fn schedule(&mut self) -> Result<Stepped, NoMemory>
         requires { IsIdle self.old }
         ensures done { IfOk result (Steps self.old self.new) }
-        ensures same { OnErr result (SameProgram self.old self.new) }
+        ensures program { OnErr result (SameProgram self.old self.new) }
     {
         match self.state.first_marked() {
             Some(process) => Ok(self.run_marked(process)),
@@ -39,7 +39,7 @@ impl<'a> Machine<'a> {
     fn run_next(&mut self) -> Result<Stepped, NoMemory>
         requires { IsUnmarked self.old }
         ensures done { IfOk result (Steps self.old self.new) }
-        ensures same { OnErr result (SameProgram self.old self.new) }
+        ensures program { OnErr result (SameProgram self.old self.new) }
     {
         let Some(time) = self.state.next_time() else {
             return Ok(self.stop());
@@ -67,7 +67,7 @@ impl<'a> Machine<'a> {
     fn take_entry(&mut self) -> Result<Stepped, NoMemory>
         requires { TakesEntry self.old }
         ensures done { IfOk result (Steps self.old self.new) }
-        ensures same { OnErr result (SameProgram self.old self.new) }
+        ensures program { OnErr result (SameProgram self.old self.new) }
     {
         let process = self.state.take_slot();
         self.state.run(process);
