@@ -32,4 +32,4 @@ base-later old new c grows named = clauses-later old new grows c.cells named c.c
 
 -- what is added to a machine's names changes none of its clauses
 pub base_stays : (old new : Machine) → IsProgram old → SameProgram old new → base_in new ≡ base_in old
-base_stays old new h same = ap (λ b. base_of new.atoms b.now) same.base ∙ base-later old.atoms new.atoms old.base.now same.names h.named
+base_stays old new h same = ap (base_of new.atoms) same.base ∙ base-later old.atoms new.atoms old.base.now same.names h.named
