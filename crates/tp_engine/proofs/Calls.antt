@@ -7,6 +7,8 @@ use Rattle.tp_meaning.proofs.Places.{all-weaker}
 use Rattle.tp_meaning.proofs.Stack.{HasStack, HasStackUpTo, stack_above, rewound-stack}
 use Rattle.tp_terms.specs.declared.world.Proc.{Proc}
 use Rattle.tp_store.proofs.FitsLemmas.{Fits-store}
+use Rattle.tp_parse.specs.declared.read.ReadTerm.{ReadTerm}
+use Rattle.tp_clauses.specs.Contents.{Contents}
 use Rattle.tp_engine.specs.declared.answers.AnswerFault.{AnswerFault}
 use Rattle.tp_engine.specs.declared.answers.AnswerFault.TheVariants as why
 use Rattle.tp_engine.specs.declared.machine.Machine.{Machine}
@@ -109,8 +111,8 @@ module _ (t : Told) (old new : Machine) (a b : Phase) (number steps : ℕ) (was 
   same_told k l = subst (λ (s : Told). IsSame s (told_of b new k l)) was (record {
     base = base_stays old new h same;
     names = same.names;
-    named = ap (λ g. g.now.named) same.goal;
-    ops = ap (λ c. c.now.ops) same.base;
+    named = ap (λ (g : ReadTerm). g.named) same.goal;
+    ops = ap (λ (c : Contents). c.ops) same.base;
   })
 
   pub uncounted : IsUncounted t (told_of b new number steps)

@@ -15,6 +15,8 @@ use Rattle.tp_meaning.specs.Valid.{ClauseFits}
 use Rattle.tp_meaning.proofs.Holds.{step-rises}
 use Rattle.tp_meaning.proofs.Stack.{HasStack}
 use Rattle.tp_meaning.proofs.Turns.{total, Kept, kept-turned, total-start, total-end}
+use Rattle.tp_parse.specs.declared.read.ReadTerm.{ReadTerm}
+use Rattle.tp_clauses.specs.Contents.{Contents}
 use Rattle.tp_engine.specs.declared.answers.AnswerFault.{AnswerFault}
 use Rattle.tp_engine.specs.declared.answers.AnswerFault.TheVariants as why
 use Rattle.tp_engine.specs.declared.machine.Alt.{Alt}
@@ -123,8 +125,8 @@ module _ {A : Type 0} (takes : A → Answer → A → Type 0) (start : Machine) 
 
     next_start : (w : World) → next_answer old c w ≡ next_answer start c w
     next_start w =
-        ap (λ g. record { world = w; number = c.found + 1; steps = c.steps + 1; named = g.now.named; ops = old.base.now.ops }) run.same.goal
-        ∙ ap (λ b. record { world = w; number = c.found + 1; steps = c.steps + 1; named = start.goal.now.named; ops = b.now.ops }) run.same.base
+        ap (λ (g : ReadTerm). record { world = w; number = c.found + 1; steps = c.steps + 1; named = g.named; ops = old.base.now.ops }) run.same.goal
+        ∙ ap (λ (b : Contents). record { world = w; number = c.found + 1; steps = c.steps + 1; named = start.goal.now.named; ops = b.ops }) run.same.base
 
     module _ (new : Machine) (d : Tally) (now : A) (how : Option How) (t : Turns takes k old c mid new d now how) where
       abbrev found : Outcome World Term

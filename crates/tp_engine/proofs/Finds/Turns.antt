@@ -12,6 +12,8 @@ use Rattle.tp_meaning.specs.Step.{step, searched}
 use Rattle.tp_meaning.specs.declared.DeadCause.{DeadCause}
 use Rattle.tp_meaning.specs.declared.DeadCause.TheVariants.{Failed, Deadlock, Late}
 use Rattle.tp_meaning.proofs.Stack.{back-some, back-none}
+use Rattle.tp_parse.specs.declared.read.ReadTerm.{ReadTerm}
+use Rattle.tp_clauses.specs.Contents.{Contents}
 use Rattle.tp_engine.specs.declared.answers.AnswerFault.{AnswerFault}
 use Rattle.tp_engine.specs.declared.answers.AnswerFault.TheVariants as why
 use Rattle.tp_engine.specs.declared.machine.Machine.{Machine}
@@ -135,8 +137,8 @@ module _ (old mid : Machine) (c : Tally) where
   -- an answer that is handed over is the machine's next one
   next_is : SameProgram old mid → answer_in (seen_of mid (c.found + 1) (c.steps + 1)) ≡ next_answer old c (world_in mid)
   next_is h =
-      ap (λ g. record { world = world_in mid; number = c.found + 1; steps = c.steps + 1; named = g.now.named; ops = mid.base.now.ops }) h.goal
-      ∙ ap (λ b. record { world = world_in mid; number = c.found + 1; steps = c.steps + 1; named = old.goal.now.named; ops = b.now.ops }) h.base
+      ap (λ (g : ReadTerm). record { world = world_in mid; number = c.found + 1; steps = c.steps + 1; named = g.named; ops = mid.base.now.ops }) h.goal
+      ∙ ap (λ (b : Contents). record { world = world_in mid; number = c.found + 1; steps = c.steps + 1; named = old.goal.now.named; ops = b.ops }) h.base
 
   answers_are : (r : Stepped) (d : Tally) → d ≡ counted r c → SameProgram old mid → answers_by r (answer_in (seen_of mid d.found d.steps)) ≡ answers_by r (next_answer old c (world_in mid))
   answers_are answer.Went d e h = refl
