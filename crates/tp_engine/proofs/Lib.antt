@@ -3,12 +3,15 @@ mod Raised
 pub mod HeadsMet
 pub mod Worlds
 pub mod Program
-pub mod Start
+pub mod Begun
 pub mod Rewound
 pub mod Marked
 pub mod Step
-mod Met
+mod GoalsMet
+mod Cut
+mod Matched
 pub mod Later
+pub mod SamePrograms
 pub mod Calls
 pub mod Finds
 pub mod GoalsRead

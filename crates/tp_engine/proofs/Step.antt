@@ -6,3 +6,4 @@ pub mod Items
 pub mod Schedule
 pub mod Raise
 pub mod Clauses
+pub mod Back

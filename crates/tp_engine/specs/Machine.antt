@@ -1,5 +1,5 @@
 -- The machine of the code: its world and choices, and what holds of them.
-use Rattle.std.specs.Prelude.{◌≡◌, ℕ, Bool, true, false, ◌+◌, ◌<◌, ◌≤◌, ◌^◌, List, [], ◌∷◌, ◌++◌, map, reverse, drop, length, Option, Some, None, All, IsTrue, is_some}
+use Rattle.std.specs.Prelude.{◌≡◌, ℕ, Bool, true, false, nat_le, slice_get, ◌+◌, ◌-◌, ◌<◌, ◌≤◌, ◌^◌, List, [], ◌∷◌, ◌++◌, map, reverse, drop, length, Option, Some, None, All, IsTrue, is_some}
 use Rattle.tp_terms.specs.declared.cells.Ref.{Ref}
 use Rattle.tp_terms.specs.Term.{Name, Term, Terms, term_of, count_of}
 use Rattle.tp_terms.specs.Shown.{AreNamed, shows}
@@ -63,6 +63,10 @@ choice_of names base c = open_at base (world_of names (plain_of c.state) c.stamp
 -- the choices of a stack, the newest of which comes first
 abbrev pub choices_of : List Name → Base → List Choice → List (machine.Choice World)
 choices_of names base cs = map (choice_of names base) (reverse cs)
+
+-- the newest choice of a stack has this stamp or a higher one
+abbrev pub newest_from : ℕ → List Choice → Bool
+newest_from stamp cs = elim (slice_get cs (length cs - 1)) [ None ↦ false | Some c ↦ nat_le stamp c.stamp ]
 
 -- after going back: the choice whose contents are those of the machine
 abbrev pub waiting_of : Base → World → ℕ → Option Alt → List (machine.Choice World)

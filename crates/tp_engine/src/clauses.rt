@@ -1,6 +1,6 @@
 //! Goals that clauses define.
 
-ghost use Rattle.std.specs.Prelude.{◌≡◌, ◌+◌, ◌<◌, ◌^◌, ◌-◌, Some, None, IfOk, IfSome, OnOk, length, slice_get, map, drop};
+ghost use Rattle.std.specs.Prelude.{OnErr, ◌≡◌, ◌+◌, ◌<◌, ◌^◌, ◌-◌, Some, None, IfOk, IfSome, OnOk, length, slice_get, map, drop};
 
 use crate::errors::Cause;
 use crate::frames::Item;
@@ -24,7 +24,7 @@ fn id_at(places: &[ClauseId], place: usize) -> ClauseId
 impl<'a> Machine<'a> {
     ghost use Rattle.tp_clauses.specs.Contents.{clauses_at};
     ghost use Rattle.tp_engine.specs.declared.machine.Alt.{Alt};
-    ghost use Rattle.tp_engine.specs.Machine.{IsMachine, IsProgram, Steps, Resumes};
+    ghost use Rattle.tp_engine.specs.Machine.{IsMachine, IsProgram, SameProgram, Steps, Resumes};
     ghost use Rattle.tp_engine.specs.Meets.{Calls, Hits, IsCurrent, clauses_of, found_from};
     ghost use Rattle.tp_engine.specs.Goes.{IsKept, Enters, Returns};
 
@@ -42,28 +42,19 @@ impl<'a> Machine<'a> {
     }
 
     /// The first clause of a goal, from a place among its clauses on, whose head has a unifier with it.
-    fn next_match(
-        &mut self,
-        task: Task,
-        call: Call,
-        from: usize,
-    ) -> Result<Option<usize>, NoMemory>
+    fn next_match(&mut self, task: Task, call: Call, from: usize) -> Result<Option<usize>, NoMemory>
         requires machine { IsMachine self.old }
         requires call { Calls self.old task call None }
         ensures same { OnOk result (self.new ≡ self.old) }
         ensures found { IfOk result (λ r. r ≡ found_from self.old task call from) }
         ensures few { IfOk result (λ r. IfSome r (λ k. k < 2 ^ 63)) }
+        ensures program { OnErr result (SameProgram self.old self.new) }
     {
         let count = self.places(call).len();
         for k in from..count {
             let id = id_at(self.places(call), k);
             let clause = self.base.clause(id);
-            if meets(
-                &mut self.state.store,
-                task.goal,
-                self.base.cells(),
-                clause,
-            )? {
+            if meets(&mut self.state.store, task.goal, self.base.cells(), clause)? {
                 return Ok(Some(k));
             }
         }
@@ -74,7 +65,8 @@ impl<'a> Machine<'a> {
     pub fn run_clauses(&mut self, task: Task, call: Call) -> Result<Stepped, NoMemory>
         requires machine { IsMachine self.old }
         requires call { Calls self.old task call None }
-        ensures { IfOk result (Steps self.old self.new) }
+        ensures done { IfOk result (Steps self.old self.new) }
+        ensures program { OnErr result (SameProgram self.old self.new) }
     {
         if self.places(call).is_empty() {
             return self.raise(task, Cause::Unknown(call.name, call.count));
@@ -91,10 +83,14 @@ impl<'a> Machine<'a> {
     fn keep_clauses(&mut self, task: Task, call: Call, from: usize) -> Result<(), NoMemory>
         requires machine { IsMachine self.old }
         requires call { Calls self.old task call None }
-        ensures { OnOk result (IsKept self.old (Alt.Clause from) self.new) }
+        ensures done { OnOk result (IsKept self.old (Alt.Clause from) self.new) }
+        ensures program { OnErr result (SameProgram self.old self.new) }
     {
         match self.next_match(task, call, from)? {
-            Some(next) => self.keep(Alt::Clause(next)),
+            Some(next) => {
+                self.keep(Alt::Clause(next))?;
+                Ok(())
+            }
             None => Ok(()),
         }
     }
@@ -102,17 +98,13 @@ impl<'a> Machine<'a> {
     /// Replaces a goal by the body of its clause at a place.
     fn enter(&mut self, task: Task, call: Call, place: usize) -> Result<(), NoMemory>
         requires { Hits self.old task call place }
-        ensures { OnOk result (Enters self.old place self.new) }
+        ensures done { OnOk result (Enters self.old place self.new) }
+        ensures program { OnErr result (SameProgram self.old self.new) }
     {
         let id = id_at(self.places(call), place);
         let clause = self.base.clause(id);
         self.state.items = task.rest;
-        let body = enter_clause(
-            &mut self.state.store,
-            task.goal,
-            self.base.cells(),
-            clause,
-        )?;
+        let body = enter_clause(&mut self.state.store, task.goal, self.base.cells(), clause)?;
         self.state.push_body(body, self.stamp)?;
         self.stamp += 1;
         Ok(())
@@ -121,7 +113,8 @@ impl<'a> Machine<'a> {
     /// On with the clause at a place.
     pub fn resume_clauses(&mut self, place: usize) -> Result<(), NoMemory>
         requires { Returns self.old (Alt.Clause place) }
-        ensures { OnOk result (Resumes (record self.old { waiting = Some (Alt.Clause place) }) self.new) }
+        ensures done { OnOk result (Resumes (record self.old { waiting = Some (Alt.Clause place) }) self.new) }
+        ensures program { OnErr result (SameProgram self.old self.new) }
     {
         let Some((task, call)) = self.current() else {
             unreachable!()

@@ -1,6 +1,6 @@
 //! The control goals (ISO/IEC 13211-1, 7.8).
 
-ghost use Rattle.std.specs.Prelude.{◌≡◌, Some, IfOk};
+ghost use Rattle.std.specs.Prelude.{OnErr, ◌≡◌, Some, IfOk};
 ghost use Rattle.tp_meaning.specs.declared.goals.GoalKind.TheVariants.{Control};
 ghost use Rattle.tp_meaning.specs.declared.goals.ControlGoal.{ControlGoal};
 
@@ -13,7 +13,7 @@ use tp_meaning::{ControlGoal, DeadCause};
 use tp_terms::{NoMemory, Ref};
 
 impl<'a> Machine<'a> {
-    ghost use Rattle.tp_engine.specs.Machine.{IsMachine, Steps};
+    ghost use Rattle.tp_engine.specs.Machine.{IsMachine, SameProgram, Steps};
     ghost use Rattle.tp_engine.specs.Meets.{Calls};
 
     /// A control goal. Those that aren't there yet are unknown.
@@ -25,7 +25,8 @@ impl<'a> Machine<'a> {
     ) -> Result<Stepped, NoMemory>
         requires machine { IsMachine self.old }
         requires call { Calls self.old task call (Some (Control goal)) }
-        ensures { IfOk result (Steps self.old self.new) }
+        ensures done { IfOk result (Steps self.old self.new) }
+        ensures program { OnErr result (SameProgram self.old self.new) }
     {
         match goal {
             ControlGoal::True => Ok(self.succeed(task, call)),
@@ -50,7 +51,8 @@ impl<'a> Machine<'a> {
     fn conjoin(&mut self, task: Task, call: Call) -> Result<Stepped, NoMemory>
         requires machine { IsMachine self.old }
         requires call { Calls self.old task call (Some (Control ControlGoal.Conjunction)) }
-        ensures { IfOk result (Steps self.old self.new) }
+        ensures done { IfOk result (Steps self.old self.new) }
+        ensures program { OnErr result (SameProgram self.old self.new) }
     {
         let second = self.argument(call, 1);
         self.state.items = task.rest;

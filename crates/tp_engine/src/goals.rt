@@ -1,6 +1,6 @@
 //! Goals, by their kinds.
 
-ghost use Rattle.std.specs.Prelude.{◌≡◌, ◌<◌, ◌+◌, List, Option, Some, IfOk, length};
+ghost use Rattle.std.specs.Prelude.{OnErr, ◌≡◌, ◌<◌, ◌+◌, List, Option, Some, IfOk, length};
 ghost use Rattle.tp_terms.specs.Term.{Name};
 ghost use Rattle.tp_terms.specs.Shown.{AreNamed};
 ghost use Rattle.tp_store.specs.Contents.{IsStore};
@@ -35,14 +35,15 @@ pub fn met(store: &Store, goal: Ref) -> Met
 }
 
 impl<'a> Machine<'a> {
-    ghost use Rattle.tp_engine.specs.Machine.{IsMachine, Steps};
+    ghost use Rattle.tp_engine.specs.Machine.{IsMachine, SameProgram, Steps};
     ghost use Rattle.tp_engine.specs.Meets.{Meets, Calls, IsCall, IsCause};
 
     /// The running process meets a goal.
     pub fn meet(&mut self, task: Task) -> Result<Stepped, NoMemory>
         requires machine { IsMachine self.old }
         requires meets { Meets self.old task }
-        ensures { IfOk result (Steps self.old self.new) }
+        ensures done { IfOk result (Steps self.old self.new) }
+        ensures program { OnErr result (SameProgram self.old self.new) }
     {
         match met(&self.state.store, task.goal) {
             Met::Unbound => self.raise(task, Cause::Unbound),
@@ -56,12 +57,25 @@ impl<'a> Machine<'a> {
         requires machine { IsMachine self.old }
         requires meets { Meets self.old task }
         requires call { IsCall self.old.atoms self.old.state.store task.goal call }
-        ensures { IfOk result (Steps self.old self.new) }
+        ensures done { IfOk result (Steps self.old self.new) }
+        ensures program { OnErr result (SameProgram self.old self.new) }
     {
         match goal_kind(call.name, call.count) {
             None => self.run_clauses(task, call),
-            Some(GoalKind::Control(goal)) => self.control(task, call, goal),
-            Some(_) => self.raise(task, Cause::Unknown(call.name, call.count)),
+            Some(kind) => self.take(task, call, kind),
+        }
+    }
+
+    /// A goal that the language has of its own. Process goals and built-ins aren't there yet.
+    fn take(&mut self, task: Task, call: Call, kind: GoalKind) -> Result<Stepped, NoMemory>
+        requires machine { IsMachine self.old }
+        requires call { Calls self.old task call (Some kind) }
+        ensures done { IfOk result (Steps self.old self.new) }
+        ensures program { OnErr result (SameProgram self.old self.new) }
+    {
+        match kind {
+            GoalKind::Control(goal) => self.control(task, call, goal),
+            _ => self.raise(task, Cause::Unknown(call.name, call.count)),
         }
     }
 
@@ -70,7 +84,8 @@ impl<'a> Machine<'a> {
         requires machine { IsMachine self.old }
         requires meets { Meets self.old task }
         requires cause { IsCause self.old task cause }
-        ensures { IfOk result (Steps self.old self.new) }
+        ensures done { IfOk result (Steps self.old self.new) }
+        ensures program { OnErr result (SameProgram self.old self.new) }
     {
         let process = self.state.name_of(task.process);
         let place = raised(&mut self.state.store, cause, process)?;

@@ -1,17 +1,27 @@
 //! The items of the running process.
 
-ghost use Rattle.std.specs.Prelude.{◌≡◌, ℕ, List, Some, None, IfOk, OnOk, take};
+ghost use Rattle.std.specs.Prelude.{OnErr, ◌≡◌, ℕ, List, Some, None, IfOk, OnOk, take};
 ghost use Rattle.tp_terms.specs.Term.{Name};
 ghost use Rattle.tp_meaning.specs.Clauses.{Base};
 ghost use Rattle.tp_meaning.specs.Machine.{cut_from};
 ghost use Rattle.tp_engine.specs.declared.frames.Item.{Item};
-ghost use Rattle.tp_engine.specs.Machine.{choices_of};
+ghost use Rattle.tp_engine.specs.Machine.{choices_of, newest_from};
 
 use crate::frames::Item;
 use crate::machine::{Alt, Choice, Machine};
 use crate::phase::Stepped;
 use crate::task::Task;
 use tp_terms::{EventKind, ItemId, NoMemory, ProcStatus, Ref};
+
+/// Whether the newest choice has this stamp or a higher one.
+fn newest_is_from(choices: &[Choice], stamp: u64) -> bool
+    ensures { result ≡ newest_from stamp choices.now }
+{
+    match choices.last() {
+        Some(choice) => choice.stamp >= stamp,
+        None => false,
+    }
+}
 
 /// Removes the choices with this stamp or a higher one.
 fn cut_choices(choices: &mut Vec<Choice>, stamp: u64)
@@ -20,24 +30,22 @@ fn cut_choices(choices: &mut Vec<Choice>, stamp: u64)
         ≡ cut_from stamp (choices_of names base choices.old.items) }
     ensures first { (n : ℕ) × (choices.new.items ≡ take n choices.old.items) }
 {
-    'cut: while let Some(choice) = choices.last() {
-        if choice.stamp < stamp {
-            return;
-        }
+    'cut: while newest_is_from(choices.as_slice(), stamp) {
         choices.pop();
     }
 }
 
 impl<'a> Machine<'a> {
     ghost use Rattle.tp_engine.specs.declared.machine.Alt.{Alt};
-    ghost use Rattle.tp_engine.specs.Machine.{IsMachine, Steps, Resumes};
+    ghost use Rattle.tp_engine.specs.Machine.{IsMachine, SameProgram, Steps, Resumes};
     ghost use Rattle.tp_engine.specs.Meets.{Runs, HasFirst};
     ghost use Rattle.tp_engine.specs.Goes.{MayKeep, IsKept, Returns};
 
     /// The running process takes its first item, or ends where it has none.
     pub fn advance(&mut self, process: usize) -> Result<Stepped, NoMemory>
         requires { Runs self.old process }
-        ensures { IfOk result (Steps self.old self.new) }
+        ensures done { IfOk result (Steps self.old self.new) }
+        ensures program { OnErr result (SameProgram self.old self.new) }
     {
         let Some(first) = self.state.items else {
             return self.end(process);
@@ -59,7 +67,8 @@ impl<'a> Machine<'a> {
     fn end(&mut self, process: usize) -> Result<Stepped, NoMemory>
         requires runs { Runs self.old process }
         requires none { self.old.state.items ≡ None }
-        ensures { IfOk result (Steps self.old self.new) }
+        ensures done { IfOk result (Steps self.old self.new) }
+        ensures program { OnErr result (SameProgram self.old self.new) }
     {
         self.state.leave(process, ProcStatus::Ended);
         self.state.note(process, EventKind::End)?;
@@ -91,7 +100,8 @@ impl<'a> Machine<'a> {
     ) -> Result<Stepped, NoMemory>
         requires machine { IsMachine self.old }
         requires first { HasFirst self.old _process (Item.Retry goal) rest }
-        ensures { IfOk result (Steps self.old self.new) }
+        ensures done { IfOk result (Steps self.old self.new) }
+        ensures program { OnErr result (SameProgram self.old self.new) }
     {
         self.keep(Alt::Second)?;
         self.state.items = rest;
@@ -107,7 +117,8 @@ impl<'a> Machine<'a> {
     /// The process goes on waiting.
     pub fn resume_second(&mut self) -> Result<(), NoMemory>
         requires { Returns self.old Alt.Second }
-        ensures { OnOk result (Resumes (record self.old { waiting = Some Alt.Second }) self.new) }
+        ensures done { OnOk result (Resumes (record self.old { waiting = Some Alt.Second }) self.new) }
+        ensures program { OnErr result (SameProgram self.old self.new) }
     {
         let Some(process) = self.state.running else {
             unreachable!()
@@ -123,7 +134,8 @@ impl<'a> Machine<'a> {
     /// Keeps a choice of what is next.
     pub fn keep(&mut self, next: Alt) -> Result<(), NoMemory>
         requires { MayKeep self.old next }
-        ensures { OnOk result (IsKept self.old next self.new) }
+        ensures done { OnOk result (IsKept self.old next self.new) }
+        ensures program { OnErr result (SameProgram self.old self.new) }
     {
         let alloc = *self.choices.allocator();
         let state = self.state.copy_all(alloc)?;

@@ -80,16 +80,16 @@ fn search<A: Answers>(
     requires wanted { 0 < wanted }
     ensures found { IfOk result (λ e.
         Finds (outcome_of (told_of Phase.New machine.old 0 0) budget wanted)
-            (told_of Phase.Ran machine.new e.found e.steps) e) }
+        (told_of Phase.Ran machine.new e.found e.steps) e) }
     ensures reached { IfOk result (λ e.
         Reaches (told_of Phase.New machine.old 0 0) wanted
-            (told_of Phase.Ran machine.new e.found e.steps) e) }
+        (told_of Phase.Ran machine.new e.found e.steps) e) }
     ensures took { OnOk result (Took A.takes answers.old
         (numbered machine.old.goal.now.named machine.old.base.now.ops 0
-            (outcome_of (told_of Phase.New machine.old 0 0) budget wanted).answers) answers.new) }
+        (outcome_of (told_of Phase.New machine.old 0 0) budget wanted).answers) answers.new) }
     ensures cut { IfErr result (λ fault. IsCutShort A.takes A.leaves
         (numbered machine.old.goal.now.named machine.old.base.now.ops 0
-            (outcome_of (told_of Phase.New machine.old 0 0) budget wanted).answers)
+        (outcome_of (told_of Phase.New machine.old 0 0) budget wanted).answers)
         fault answers.old answers.new) }
     ensures same { SameProgram machine.old machine.new }
     ensures machine { OnOk result (IsMachine machine.new) }

@@ -1,6 +1,6 @@
 //! The scheduler, which acts where no process runs.
 
-ghost use Rattle.std.specs.Prelude.{◌≡◌, [], Some, IfOk, position};
+ghost use Rattle.std.specs.Prelude.{OnErr, ◌≡◌, [], Some, IfOk, position};
 ghost use Rattle.tp_engine.specs.Acts.{is_marked};
 
 use crate::machine::Machine;
@@ -9,13 +9,14 @@ use tp_meaning::DeadCause;
 use tp_terms::NoMemory;
 
 impl<'a> Machine<'a> {
-    ghost use Rattle.tp_engine.specs.Machine.{Steps};
+    ghost use Rattle.tp_engine.specs.Machine.{SameProgram, Steps};
     ghost use Rattle.tp_engine.specs.Meets.{IsIdle, IsUnmarked, TakesEntry};
 
     /// The first rule that applies: a marked process runs, else the calendar's first entry is taken.
     pub fn schedule(&mut self) -> Result<Stepped, NoMemory>
         requires { IsIdle self.old }
-        ensures { IfOk result (Steps self.old self.new) }
+        ensures done { IfOk result (Steps self.old self.new) }
+        ensures program { OnErr result (SameProgram self.old self.new) }
     {
         match self.state.first_marked() {
             Some(process) => Ok(self.run_marked(process)),
@@ -37,7 +38,8 @@ impl<'a> Machine<'a> {
     /// The process of the first entry of the calendar runs, unless a process would live past its end time.
     fn run_next(&mut self) -> Result<Stepped, NoMemory>
         requires { IsUnmarked self.old }
-        ensures { IfOk result (Steps self.old self.new) }
+        ensures done { IfOk result (Steps self.old self.new) }
+        ensures program { OnErr result (SameProgram self.old self.new) }
     {
         let Some(time) = self.state.next_time() else {
             return Ok(self.stop());
@@ -64,7 +66,8 @@ impl<'a> Machine<'a> {
     /// The first entry of the calendar is taken.
     fn take_entry(&mut self) -> Result<Stepped, NoMemory>
         requires { TakesEntry self.old }
-        ensures { IfOk result (Steps self.old self.new) }
+        ensures done { IfOk result (Steps self.old self.new) }
+        ensures program { OnErr result (SameProgram self.old self.new) }
     {
         let process = self.state.take_slot();
         self.state.run(process);

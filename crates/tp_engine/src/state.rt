@@ -56,7 +56,7 @@ fn place_goal(store: &mut Store, goal: &ReadTerm) -> Result<Option<Ref>, NoMemor
     ensures { IfOk result (λ found.
         (names : List Name) → IsTable names → AreNamed (length names) goal.now.cells.items →
         MatchOption found (body (goal_term names goal.now) ≡ None)
-            (λ place. IsPlaced names goal.now place store.new)) }
+        (λ place. IsPlaced names goal.now place store.new)) }
 {
     let base = store.claim(goal.vars)?;
     let root = store.instance(&goal.cells, goal.root, base)?;
@@ -128,7 +128,7 @@ impl State {
         ensures { IfOk result (λ found.
             (names : List Name) → IsTable names → AreNamed (length names) goal.now.cells.items →
             MatchOption found (body (goal_term names goal.now) ≡ None)
-                (λ s. IsStart names goal.now (plain_of s))) }
+            (λ s. IsStart names goal.now (plain_of s))) }
     {
         let mut store = Store::new(alloc);
         let Some(place) = place_goal(&mut store, goal)? else {
@@ -217,7 +217,8 @@ impl State {
     /// Marks each process that is parked, but for one.
     pub fn mark_others(&mut self, pid: usize)
         ensures { plain_of self.new ≡ record (plain_of self.old) {
-            procs = mark_others pid self.old.procs.items } }
+          procs = mark_others pid self.old.procs.items;
+        } }
     {
         mark_all_but(&mut self.procs, pid);
     }
@@ -291,7 +292,9 @@ impl State {
         requires { 0 < length self.old.slots.items }
         ensures { (e : Slot) (es : List Slot) → self.old.slots.items ≡ e ∷ es →
             (result ≡ e.pid) × (plain_of self.new ≡ record (plain_of self.old) {
-                clock = e.time; slots = es }) }
+              clock = e.time;
+              slots = es;
+            }) }
     {
         let slot = self.slots.remove(0);
         self.clock = slot.time;

@@ -375,7 +375,7 @@ module _ (m : Machine) (t : Task) (c : Call) (place : ℕ) (h : Hits m t c place
         map-split (body_list body m.stamp) (items_at m.state.frames t.rest)
         ∙ ap (λ xs. xs ++ map (item_of m.atoms new) (items_at m.state.frames t.rest)) (body-is body d.body e.body)
         ∙ ap (λ ys. map (item_under u) (clauses.body_items d (world_in m)) ++ ys)
-          (items-by m.atoms (apply u) m.state.store new other.terms (items_at m.state.frames t.rest) (list_stands (length m.state.store.cells) m.state.frames t.rest h.calls.meets.standing.stands.lists h.calls.meets.rest))
+        (items-by m.atoms (apply u) m.state.store new other.terms (items_at m.state.frames t.rest) (list_stands (length m.state.store.cells) m.state.frames t.rest h.calls.meets.standing.stands.lists h.calls.meets.rest))
         ∙ under-split (clauses.body_items d (world_in m)) (rest_in m t.rest)
 
     entered-world : world_of m.atoms (bodied body m.stamp (record (resting t.rest (plain_of m.state)) { store = new })) (m.stamp + 1) ≡ world_under u (by_clause (turn_in m t.process t.rest) d)
@@ -386,18 +386,18 @@ module _ (m : Machine) (t : Task) (c : Call) (place : ℕ) (h : Hits m t c place
         let rest = rest_in m t.rest in
         let last = items_of m.atoms (bodied body m.stamp stored) (bodied body m.stamp stored).items in
         let listed : last ≡ map (item_under u) these =
-            ap (λ (x : Contents). map (item_of m.atoms x) (items_at (bodied body m.stamp stored).frames (bodied body m.stamp stored).items)) (bodied-store body m.stamp stored)
-            ∙ ap (map (item_of m.atoms new)) (bodied-items body m.stamp stored) ∙ items-under in
+        ap (λ (x : Contents). map (item_of m.atoms x) (items_at (bodied body m.stamp stored).frames (bodied body m.stamp stored).items)) (bodied-store body m.stamp stored)
+        ∙ ap (map (item_of m.atoms new)) (bodied-items body m.stamp stored) ∙ items-under in
         other-world m.atoms stored (bodied body m.stamp stored) r m.stamp stands2 other3 run
         ∙ ap (λ is. with_items r is (world_of m.atoms stored (m.stamp + 1))) listed
         ∙ ap (with_items r (map (item_under u) these)) (under-world m.atoms rested new (m.stamp + 1) stands1 other)
         ∙ ap (λ v. with_items r (map (item_under u) these) (world_under u (record v { next = new.vars }))) (other-world m.atoms p rested r m.stamp h.calls.meets.standing.stands (other-rest m.atoms p t.rest h.calls.meets.rest) run)
         ∙ ap (λ n. with_items r (map (item_under u) these) (world_under u (record (with_items r rest w) { next = n }))) e.vars
         ∙ ap (λ ps. record (world_under u (record w { next = m.state.store.vars + d.vars })) { processes = ps }) (
-          ap (at_place r (λ (x : world.Process). record x { items = map (item_under u) these }))
-            (at_place-map (process_under u) (λ (x : world.Process). record x { items = rest }) (λ (x : world.Process). record x { items = map (item_under u) rest }) (λ x. refl) r w.processes)
-          ∙ at_place-over (λ (x : world.Process). record x { items = map (item_under u) these }) (λ (x : world.Process). record x { items = map (item_under u) rest }) (λ x. refl) r (map (process_under u) w.processes)
-          ∙ sym (at_place-map (process_under u) (λ (x : world.Process). record x { items = these }) (λ (x : world.Process). record x { items = map (item_under u) these }) (λ x. refl) r w.processes)
+        ap (at_place r (λ (x : world.Process). record x { items = map (item_under u) these }))
+        (at_place-map (process_under u) (λ (x : world.Process). record x { items = rest }) (λ (x : world.Process). record x { items = map (item_under u) rest }) (λ x. refl) r w.processes)
+        ∙ at_place-over (λ (x : world.Process). record x { items = map (item_under u) these }) (λ (x : world.Process). record x { items = map (item_under u) rest }) (λ x. refl) r (map (process_under u) w.processes)
+        ∙ sym (at_place-map (process_under u) (λ (x : world.Process). record x { items = these }) (λ (x : world.Process). record x { items = map (item_under u) these }) (λ x. refl) r w.processes)
         )
 
     pub enters : (s : State) → plain_of s ≡ bodied body m.stamp (record (resting t.rest (plain_of m.state)) { store = new }) → Enters m place (record m { state = s; stamp = m.stamp + 1 })

@@ -97,9 +97,9 @@ module _ (m : Machine) (t : Task) (c : Call) (is : IsMachine m) where
       let o = subst (OtherItems m.atoms p) (sym e3) o3 in
       let items = Goal c.first t.barrier ∷ Goal second t.barrier ∷ items_at m.state.frames t.rest in
       let listed : items_at (plain_of s').frames (plain_of s').items ≡ items =
-          ap (λ (x : Plain). items_at x.frames x.items) e3
-          ∙ pushed-items (Goal c.first t.barrier) (pushed (Goal second t.barrier) q)
-          ∙ ap (λ l. Goal c.first t.barrier ∷ l) (pushed-items (Goal second t.barrier) q) in
+      ap (λ (x : Plain). items_at x.frames x.items) e3
+      ∙ pushed-items (Goal c.first t.barrier) (pushed (Goal second t.barrier) q)
+      ∙ ap (λ l. Goal c.first t.barrier ∷ l) (pushed-items (Goal second t.barrier) q) in
       let ts = args_seen m.atoms m.state.store c.first.at c.count in
       let first_is : arg 0 ts ≡ seen m.atoms m.state.store c.first.at = arg-is m.atoms m.state.store c.first.at c.count 0 (omega arith) ∙ ap (seen m.atoms m.state.store) (let z : c.first.at + 0 ≡ c.first.at = omega arith in z) in
       let second_is : arg 1 ts ≡ seen m.atoms m.state.store second.at = arg-is m.atoms m.state.store c.first.at c.count 1 (omega arith) ∙ ap (seen m.atoms m.state.store) (sym es) in

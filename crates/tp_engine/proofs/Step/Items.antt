@@ -67,10 +67,10 @@ ends m r s1 s2 s3 h none e1 e2 e3 =
     (first-step m r (standing m is) h.running
     ∙ ap (λ o. item_step (base_in m) w r (items_of names p o)) none
     ∙ ap one (sym (
-      ap (λ (x : Plain). world_of names x (m.stamp + 1)) is3
-      ∙ marked-world names (noted r event.End p1) r (m.stamp + 1) refl
-      ∙ ap (λ (v : World). record v { processes = world.mark_others r v.processes }) (noted-world names p1 r (m.stamp + 1) event.End)
-      ∙ ap (λ (v : World). record (world.with_event r world.End v) { processes = world.mark_others r v.processes }) (left-world names p r (m.stamp + 1) q.0 Ended h.running q.1)
+    ap (λ (x : Plain). world_of names x (m.stamp + 1)) is3
+    ∙ marked-world names (noted r event.End p1) r (m.stamp + 1) refl
+    ∙ ap (λ (v : World). record v { processes = world.mark_others r v.processes }) (noted-world names p1 r (m.stamp + 1) event.End)
+    ∙ ap (λ (v : World). record (world.with_event r world.End v) { processes = world.mark_others r v.processes }) (left-world names p r (m.stamp + 1) q.0 Ended h.running q.1)
     )))
 
 -- ---- a commit
@@ -119,9 +119,9 @@ module _ (m : Machine) (r : ℕ) (g : Ref) (rest : Option ItemId) (is : IsMachin
       let o = subst (OtherItems m.atoms p) (sym e3) o3 in
       let items = Goal g (d + 1) ∷ Commit d ∷ items_at m.state.frames rest in
       let listed : items_at (plain_of s2).frames (plain_of s2).items ≡ items =
-          ap (λ (x : Plain). items_at x.frames x.items) e3
-          ∙ pushed-items (Goal g (d + 1)) (pushed (Commit d) q)
-          ∙ ap (λ l. Goal g (d + 1) ∷ l) (pushed-items (Commit d) q) in
+      ap (λ (x : Plain). items_at x.frames x.items) e3
+      ∙ pushed-items (Goal g (d + 1)) (pushed (Commit d) q)
+      ∙ ap (λ l. Goal g (d + 1) ∷ l) (pushed-items (Commit d) q) in
       let atoms : mid.atoms ≡ m.atoms = ap (λ (x : Machine). x.atoms) k.same in
       let x = seen m.atoms m.state.store g.at in
       let t = turn_in m r rest in
@@ -137,8 +137,8 @@ module _ (m : Machine) (r : ℕ) (g : Ref) (rest : Option ItemId) (is : IsMachin
       ∙ ap (λ ws. search.Branch (tried t x) ws) (sym second-left)
       ∙ ap (λ n. search.Branch (going t (world.Goal x (n + 1) ∷ world.Commit n ∷ rest_in m rest)) (untried_in m Second)) (sym ed)
       ∙ ap (λ v. search.Branch v (untried_in m Second)) (sym (
-        ap (λ (ns : List Name). world_of ns (plain_of s2) (d + 1)) atoms
-        ∙ other-to m s2 (d + 1) r items is o (ap (λ n. n + 1) ed) h.running listed)))
+      ap (λ (ns : List Name). world_of ns (plain_of s2) (d + 1)) atoms
+      ∙ other-to m s2 (d + 1) r items is o (ap (λ n. n + 1) ed) h.running listed)))
 
   pub tries : (mid : Machine) (s1 s2 : State) → IsKept m Second mid → plain_of s1 ≡ pushed (Commit mid.stamp) (resting rest (plain_of mid.state)) → plain_of s2 ≡ pushed (Goal g (mid.stamp + 1)) (plain_of s1) → Steps m (record mid { state = s2; stamp = mid.stamp + 1 }) answer.Went
   tries mid s1 s2 k e1 e2 = tries_at mid s1 s2 mid.stamp (ap (λ (y : Machine). y.stamp) k.same) k e1 e2
@@ -162,15 +162,14 @@ waits_again m s a is e =
     let g = seen names m.state.store a.goal.at in
     let items : world.items_at (world_in m).processes r ≡ world.Retry g ∷ map (item_of names m.state.store) a.rest = items-there names p r lt a.running ∙ ap (map (item_of names m.state.store)) a.list in
     let next : untried_in m Second ≡ record (parked t g) { running = None } ∷ [] =
-        ap (λ o. elim o as (λ _. List World) [ None ↦ [] | Some k ↦ untried_by (base_in m) (world_in m) k (world.items_at (world_in m).processes k) Second ]) a.running
-        ∙ ap (λ l. untried_by (base_in m) (world_in m) r l Second) items in
-    (
+    ap (λ o. elim o as (λ _. List World) [ None ↦ [] | Some k ↦ untried_by (base_in m) (world_in m) k (world.items_at (world_in m).processes k) Second ]) a.running
+    ∙ ap (λ l. untried_by (base_in m) (world_in m) r l Second) items in (
       record { same = refl; names = Grows-same names; table = is.program.table; stands = subst (PlainStands names) (sym here) (left-stands names p r q.0 (Parked false) is.stands q.1); stamp = refl },
       next ∙ ap (λ v. v ∷ []) (sym (
-        ap (λ (x : Plain). world_of names x (m.stamp + 1)) here
-        ∙ left-world names p r (m.stamp + 1) q.0 (Parked false) a.running q.1
-        ∙ ap (λ ps. record (with_status r (Parked false) (stamped (record (world_in m) { processes = ps }))) { running = None }) (sym (kept_items (world_in m).processes r (world.Retry g ∷ map (item_of names m.state.store) a.rest) items))
-      )),
+          ap (λ (x : Plain). world_of names x (m.stamp + 1)) here
+          ∙ left-world names p r (m.stamp + 1) q.0 (Parked false) a.running q.1
+          ∙ ap (λ ps. record (with_status r (Parked false) (stamped (record (world_in m) { processes = ps }))) { running = None }) (sym (kept_items (world_in m).processes r (world.Retry g ∷ map (item_of names m.state.store) a.rest) items))
+          )),
     )
   where
     kept_items : (ps : List world.Process) (r : ℕ) (is : List world.Item) → world.items_at ps r ≡ is → at_place r (λ (x : world.Process). record x { items = is }) ps ≡ ps

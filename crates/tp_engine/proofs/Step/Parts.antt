@@ -82,7 +82,7 @@ steps old new r f =
     let same : base_in new ≡ base_in old = meaning old new p f.base f.names in
     let later = choices-later old.atoms new.atoms f.names (base_in old) new.choices.items f.choices in
     let here : state_in new ≡ record { world = world_in new; choices = choices_of old.atoms (base_in old) new.choices.items } =
-        state_is new f.waiting ∙ ap (λ b. record { world = world_in new; choices = choices_of new.atoms b new.choices.items }) same ∙ ap (λ cs. record { world = world_in new; choices = cs }) later in
+    state_is new f.waiting ∙ ap (λ b. record { world = world_in new; choices = choices_of new.atoms b new.choices.items }) same ∙ ap (λ cs. record { world = world_in new; choices = cs }) later in
     let e : (answer_by new r, state_in new) ≡ stepped x (state_in old) = ap (λ (s : State World). (answer_by new r, s)) here ∙ f.step in
     let fits = base_fits old p in
     let rises = step-rises (base_in old) (world_in old) fits f.is.worlds.world.valid in
@@ -212,9 +212,9 @@ resumes m mid new next more back k g e =
     let later = choices-later m.atoms new.atoms grows (base_in m) new.choices.items fits in
     let kept : choices_of m.atoms (base_in m) new.choices.items ≡ with_choice m.stamp w more cs = ap (λ (ds : Vec Choice Global). choices_of m.atoms (base_in m) ds.items) (ap (λ (q : Machine). q.choices) g.same) ∙ k.kept in
     let here : state_in new ≡ record { world = world_in new; choices = with_choice m.stamp w more cs } =
-        state_is new waiting ∙ ap (λ b. record { world = world_in new; choices = choices_of new.atoms b new.choices.items }) same ∙ ap (λ ds. record { world = world_in new; choices = ds }) (later ∙ kept) in
+    state_is new waiting ∙ ap (λ b. record { world = world_in new; choices = choices_of new.atoms b new.choices.items }) same ∙ ap (λ ds. record { world = world_in new; choices = ds }) (later ∙ kept) in
     let old : state_in (record m { waiting = Some next }) ≡ record { world = w; choices = record { stamp = m.stamp; world = w; untried = world_in new ∷ more } ∷ cs } =
-        ap (λ ws. record { world = w; choices = record { stamp = m.stamp; world = w; untried = ws } ∷ cs }) e in
+    ap (λ ws. record { world = w; choices = record { stamp = m.stamp; world = w; untried = ws } ∷ cs }) e in
     let resumed_is : state_in new ≡ machine.resumed (state_in (record m { waiting = Some next })) = here ∙ sym (ap machine.resumed old) in
     let stamp : new.stamp ≡ m.stamp + 1 = g.stamp ∙ ap (λ (q : Machine). q.stamp + 1) k.same in
     let these = subst (AllByRecursion (Stands m.goal.now.vars)) e back.worlds.1 in
@@ -232,7 +232,7 @@ resumes m mid new next more back k g e =
           choices = with-hold m.goal.now.vars m.stamp w more cs is.worlds.world these.1 rest.choices;
         }));
         stack = subst (λ b. HasStack (searched b) (state_in new)) (sym same) (subst (HasStack x) (sym here)
-          (stack_with x m.stamp w (world_in new) more cs refl stamps.0 stamps.1 stack));
+            (stack_with x m.stamp w (world_in new) more cs refl stamps.0 stamps.1 stack));
       };
       same = record { base = eb; goal = eg; names = grows };
       meaning = same;

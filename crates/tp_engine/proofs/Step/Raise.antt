@@ -44,8 +44,8 @@ module _ (m : Machine) (t : Task) (is : IsMachine m) (h : Meets m t) where
       let rows = map (process_of m.atoms (plain_of m.state)) m.state.procs.items in
       ap (λ o. world.name_at (with_running o is rows) t.process) h.running
       ∙ ap (λ o. elim o as (λ _. Name) [ None ↦ [] | Some x ↦ x.name ])
-        (get-at_place (λ (x : world.Process). record x { items = is }) t.process rows
-        ∙ ap (option_map (λ (x : world.Process). record x { items = is })) (slice_get-map (process_of m.atoms (plain_of m.state)) m.state.procs.items t.process ∙ ap (option_map (process_of m.atoms (plain_of m.state))) e))
+      (get-at_place (λ (x : world.Process). record x { items = is }) t.process rows
+      ∙ ap (option_map (λ (x : world.Process). record x { items = is })) (slice_get-map (process_of m.atoms (plain_of m.state)) m.state.procs.items t.process ∙ ap (option_map (process_of m.atoms (plain_of m.state))) e))
 
   pub name_stands : (q : Proc) → slice_get m.state.procs.items t.process ≡ Some q → q.name.at < length m.atoms
   name_stands q e = (all-get _ m.state.procs.items t.process q e is.stands.procs).name
@@ -99,4 +99,4 @@ module _ (m : Machine) (t : Task) (is : IsMachine m) (h : Meets m t) where
       let e : process ≡ q.0.name = named q.0 q.1 in
       raises s place why q.0 c q.1 same
       (subst (λ (a : AtomId). Built m.atoms m.state.store s.store place.at (error (kind_term m.atoms why) (name_at m.atoms a.at))) e
-        (built m.atoms is.program.table is.stands.atoms (cause_stands why c) (subst (λ (a : AtomId). a.at < length m.atoms) (sym e) (name_stands q.0 q.1))))
+      (built m.atoms is.program.table is.stands.atoms (cause_stands why c) (subst (λ (a : AtomId). a.at < length m.atoms) (sym e) (name_stands q.0 q.1))))

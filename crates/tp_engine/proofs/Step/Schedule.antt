@@ -107,7 +107,7 @@ module _ (m : Machine) (h : IsIdle m) where
   chooses =
       ap (λ o. elim o as (λ _. Gives) [ None ↦ choose (world_in m) | Some p ↦ item_step (base_in m) (world_in m) p (world.items_at (world_in m).processes p) ]) h.idle
       ∙ ap (λ o. elim o as (λ _. Gives) [ None ↦ by_calendar (world_in m) (world_in m).calendar | Some p ↦ one (scheduler.with_running p (stamped (world_in m))) ])
-        (ap scheduler.first_marked rows-are ∙ marked-first m.atoms (plain_of m.state) m.state.procs.items)
+      (ap scheduler.first_marked rows-are ∙ marked-first m.atoms (plain_of m.state) m.state.procs.items)
 
   pub marked_there : (p : ℕ) → position is_marked m.state.procs.items ≡ Some p → p < length m.state.procs.items
   marked_there p e = (position-Some is_marked m.state.procs.items p (record { name = record { at = 0 }; end = Inf; started = true; status = Ended; items = None }) e).0
@@ -218,7 +218,7 @@ module _ (m : Machine) (h : TakesEntry m) where
       (by_entries m h.unmarked ∙ ap (λ xs. by_calendar (world_in m) (map slot_of xs)) h.slots
       ∙ ap (λ b. if b then Dead Late else one (scheduler.entered (world_in m) (slot_of h.entry) (map slot_of h.more))) (late-is m h.unmarked h.entry.time ∙ h.timely)
       ∙ ap (λ o. one (with_start pid o (scheduler.with_running pid (record (stamped (world_in m)) { clock = h.entry.time; calendar = map slot_of h.more }))))
-        (ap (λ xs. slice_get xs pid) (rows-are m h.unmarked.idle) ∙ slice_get-map (process_of names (plain_of m.state)) m.state.procs.items pid ∙ ap (option_map (process_of names (plain_of m.state))) found.1)
+      (ap (λ xs. slice_get xs pid) (rows-are m h.unmarked.idle) ∙ slice_get-map (process_of names (plain_of m.state)) m.state.procs.items pid ∙ ap (option_map (process_of names (plain_of m.state))) found.1)
       ∙ ap (λ v. one (if q.started then v else world.with_event pid world.Start (world.with_process pid (λ (x : world.Process). record x { started = true }) v))) (sym ran_is)
       ∙ ap one (sym (ap (λ (x : Plain). world_of names x (m.stamp + 1)) e3 ∙ opens.1)))
     where
@@ -229,8 +229,7 @@ module _ (m : Machine) (h : TakesEntry m) where
           go : (b : Bool) → PlainStands names (if b then p else begun pid q (noted pid event.Start p)) × (world_of names (if b then p else begun pid q (noted pid event.Start p)) n ≡ (if b then world_of names p n else world.with_event pid world.Start (world.with_process pid (λ (x : world.Process). record x { started = true }) (world_of names p n))))
           go true = (s, refl)
           go false =
-              let st = noted-stands names p pid event.Start s lt tt in
-              (
+              let st = noted-stands names p pid event.Start s lt tt in (
                 begun-stands names (noted pid event.Start p) pid q st e,
                 begun-world names (noted pid event.Start p) pid n q r e ∙ ap (world.with_process pid (λ (x : world.Process). record x { started = true })) (noted-world names p pid n event.Start),
               )

@@ -60,9 +60,9 @@ row-at names p pid q e = slice_get-map (process_of names p) p.procs pid ∙ ap (
 pub ran-world : (names : List Name) (p : Plain) (pid n : ℕ) (q : Proc) → p.running ≡ None → slice_get p.procs pid ≡ Some q → world_of names (ran pid q p) n ≡ scheduler.with_running pid (world_of names p n)
 ran-world names p pid n q idle e =
     ap (λ ps. record (world_of names p n) { running = Some pid; processes = ps }) (
-      ap (at_place pid (λ (x : world.Process). record x { items = items_of names p q.items })) set
-      ∙ at_place-same (λ (x : world.Process). record x { items = items_of names p q.items }) pid (at_place pid runs rows) (runs (process_of names p q)) here refl
-      ∙ ap (λ o. at_place pid (λ (x : world.Process). record x { status = Running }) (Rattle.tp_engine.specs.Plain.with_running o (items_of names p p.items) rows)) (sym idle)
+    ap (at_place pid (λ (x : world.Process). record x { items = items_of names p q.items })) set
+    ∙ at_place-same (λ (x : world.Process). record x { items = items_of names p q.items }) pid (at_place pid runs rows) (runs (process_of names p q)) here refl
+    ∙ ap (λ o. at_place pid (λ (x : world.Process). record x { status = Running }) (Rattle.tp_engine.specs.Plain.with_running o (items_of names p p.items) rows)) (sym idle)
     )
   where
     rows : List world.Process
@@ -91,9 +91,9 @@ left-world names p pid n q t runs e =
     let is = items_of names p p.items in
     let rows = map (process_of names p) p.procs in
     ap (λ ps. record (world_of names p n) { running = None; processes = ps }) (
-      map-set (process_of names p) (λ (x : world.Process). record x { status = t; items = is }) pid p.procs q (record q { status = t; items = p.items }) e refl
-      ∙ sym (at_place-both (λ (x : world.Process). record x { status = t }) (λ (x : world.Process). record x { items = is }) (λ (x : world.Process). record x { status = t; items = is }) (λ x. refl) pid rows)
-      ∙ ap (λ o. at_place pid (λ (x : world.Process). record x { status = t }) (Rattle.tp_engine.specs.Plain.with_running o is rows)) (sym runs)
+    map-set (process_of names p) (λ (x : world.Process). record x { status = t; items = is }) pid p.procs q (record q { status = t; items = p.items }) e refl
+    ∙ sym (at_place-both (λ (x : world.Process). record x { status = t }) (λ (x : world.Process). record x { items = is }) (λ (x : world.Process). record x { status = t; items = is }) (λ x. refl) pid rows)
+    ∙ ap (λ o. at_place pid (λ (x : world.Process). record x { status = t }) (Rattle.tp_engine.specs.Plain.with_running o is rows)) (sym runs)
     )
 
 -- ---- events
@@ -128,11 +128,11 @@ begun-world names p pid n q runs e =
     let has : world.Process → world.Process = λ x. record x { items = is } in
     let both : world.Process → world.Process = λ x. record x { started = true; items = is } in
     ap (λ ps. record (world_of names p n) { processes = ps }) (
-      ap (Rattle.tp_engine.specs.Plain.with_running p.running is) (map-set (process_of names p) starts pid p.procs q (record q { started = true }) e refl)
-      ∙ ap (λ o. Rattle.tp_engine.specs.Plain.with_running o is (at_place pid starts rows)) runs
-      ∙ at_place-both has starts both (λ x. refl) pid rows
-      ∙ sym (at_place-both starts has both (λ x. refl) pid rows)
-      ∙ ap (λ o. at_place pid starts (Rattle.tp_engine.specs.Plain.with_running o is rows)) (sym runs)
+    ap (Rattle.tp_engine.specs.Plain.with_running p.running is) (map-set (process_of names p) starts pid p.procs q (record q { started = true }) e refl)
+    ∙ ap (λ o. Rattle.tp_engine.specs.Plain.with_running o is (at_place pid starts rows)) runs
+    ∙ at_place-both has starts both (λ x. refl) pid rows
+    ∙ sym (at_place-both starts has both (λ x. refl) pid rows)
+    ∙ ap (λ o. at_place pid starts (Rattle.tp_engine.specs.Plain.with_running o is rows)) (sym runs)
     )
 
 -- ---- processes are marked
@@ -160,9 +160,9 @@ pub marked-world : (names : List Name) (p : Plain) (pid n : ℕ) → p.running �
 marked-world names p pid n idle =
     let is = items_of names p p.items in
     ap (λ ps. record (world_of names p n) { processes = ps }) (
-      ap (Rattle.tp_engine.specs.Plain.with_running p.running is) (others-rows names p pid p.procs)
-      ∙ ap (λ o. Rattle.tp_engine.specs.Plain.with_running o is (world.mark_others pid (map (process_of names p) p.procs))) idle
-      ∙ ap (λ o. world.mark_others pid (Rattle.tp_engine.specs.Plain.with_running o is (map (process_of names p) p.procs))) (sym idle)
+    ap (Rattle.tp_engine.specs.Plain.with_running p.running is) (others-rows names p pid p.procs)
+    ∙ ap (λ o. Rattle.tp_engine.specs.Plain.with_running o is (world.mark_others pid (map (process_of names p) p.procs))) idle
+    ∙ ap (λ o. world.mark_others pid (Rattle.tp_engine.specs.Plain.with_running o is (map (process_of names p) p.procs))) (sym idle)
     )
 
 length-others : (n : ℕ) (qs : List Proc) → length (mark_others n qs) ≡ length qs

@@ -99,7 +99,7 @@ module _ (names : List Name) (f : Term → Term) (p : Plain) (d : Contents) (s :
   rows-by =
       map-same (process_of names (record p { store = d })) (λ q. process_by f (process_of names p q)) (ProcStands (length names) (length p.frames))
       (λ q h. ap (λ is. record { name = name_at names q.name.at; limit = q.end; started = q.started; status = q.status; items = is })
-        (items-by names f p.store d terms (items_at p.frames q.items) (list_stands (length p.store.cells) p.frames q.items s.lists h.items))) p.procs s.procs
+      (items-by names f p.store d terms (items_at p.frames q.items) (list_stands (length p.store.cells) p.frames q.items s.lists h.items))) p.procs s.procs
       ∙ sym (map-map (process_by f) (process_of names p) p.procs)
 
   running-by : (o : Option ℕ) (is : List world.Item) (rows : List world.Process) → with_running o (map (item_by f) is) (map (process_by f) rows) ≡ map (process_by f) (with_running o is rows)
@@ -155,7 +155,7 @@ same-world names p d n s o es ev =
     ∙ ap (λ u. record (world_of names p n) { subst = u; next = d.vars; processes = map (process_by (λ t. t)) (processes_of names p); boxes = map (map (λ t. t)) (map (box_of names p.store) p.boxes); history = map (event_by (λ t. t)) (map (event_of names p.store) p.events) }) es
     ∙ ap (λ v. record (world_of names p n) { next = v; processes = map (process_by (λ t. t)) (processes_of names p); boxes = map (map (λ t. t)) (map (box_of names p.store) p.boxes); history = map (event_by (λ t. t)) (map (event_of names p.store) p.events) }) ev
     ∙ ap (λ ps. record (world_of names p n) { processes = ps; boxes = map (map (λ t. t)) (map (box_of names p.store) p.boxes); history = map (event_by (λ t. t)) (map (event_of names p.store) p.events) })
-        (map-itself (process_by (λ t. t)) (λ (q : world.Process). ap (λ is. record q { items = is }) (items-itself q.items)) (processes_of names p))
+    (map-itself (process_by (λ t. t)) (λ (q : world.Process). ap (λ is. record q { items = is }) (items-itself q.items)) (processes_of names p))
     ∙ ap (λ bs. record (world_of names p n) { boxes = bs; history = map (event_by (λ t. t)) (map (event_of names p.store) p.events) })
-        (map-itself (map (λ t. t)) (λ ts. map-itself (λ t. t) (λ t. refl) ts) (map (box_of names p.store) p.boxes))
+    (map-itself (map (λ t. t)) (λ ts. map-itself (λ t. t) (λ t. refl) ts) (map (box_of names p.store) p.boxes))
     ∙ ap (λ es'. record (world_of names p n) { history = es' }) (map-itself (event_by (λ t. t)) event-itself (map (event_of names p.store) p.events))

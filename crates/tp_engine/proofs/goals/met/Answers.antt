@@ -1,6 +1,6 @@
 use Rattle.std.proofs.Common.{length, sym, ◌∙◌}
 use Rattle.tp_store.proofs.StoreLemmas.{value-unbound}
-use Rattle.tp_engine.proofs.Met.{atom_is, compound_is}
+use Rattle.tp_engine.proofs.GoalsMet.{atom_is, compound_is}
 use Rattle.tp_engine.proofs.goals.met.Goals as goal
 
 pub returns-in-Var : goal.returns-in-Var

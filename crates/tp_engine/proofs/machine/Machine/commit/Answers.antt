@@ -1,4 +1,4 @@
-use Rattle.std.proofs.Common.{refl}
+use Rattle.std.proofs.Common.{refl, ◌+◌}
 use Rattle.tp_engine.specs.Machine.{base_in}
 use Rattle.tp_engine.proofs.Step.Items.{commits}
 use Rattle.tp_engine.proofs.machine.Machine.commit.Goals as goal

@@ -1,6 +1,6 @@
 use Rattle.std.proofs.Common.{refl, subst}
 use Rattle.tp_terms.specs.Names.{IsTable}
-use Rattle.tp_engine.proofs.Start.{begun, start_at, start_none}
+use Rattle.tp_engine.proofs.Begun.{begun, start_at, start_none}
 use Rattle.tp_engine.proofs.machine.Machine.start.Goals as goal
 
 pub returns-in_default-clause-none : goal.returns-in_default-clause-none

@@ -8,7 +8,7 @@ pub run-requires : goal.run-requires
 run-requires c = entry_there c.args.self.now c.requires c.take_slot-process.new.self c.take_slot-process.result (c.take_slot-process.ensures _ _ c.requires.slots).0 (c.take_slot-process.ensures _ _ c.requires.slots).1
 
 pub open-requires : goal.open-requires
-open-requires c = entry_kept c.args.self.now c.requires c.take_slot-process.new.self c.run.new.self c.take_slot-process.result (c.take_slot-process.ensures _ _ c.requires.slots).0 (c.take_slot-process.ensures _ _ c.requires.slots).1 c.run.ensures
+open-requires c = entry_kept c.args.self.now c.requires c.take_slot-process.new.self c.take_slot-process.result (c.take_slot-process.ensures _ _ c.requires.slots).0 (c.take_slot-process.ensures _ _ c.requires.slots).1 c.run.new.self c.run.ensures
 
 pub returns : goal.returns
 returns c =

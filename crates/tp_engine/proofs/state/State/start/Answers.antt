@@ -1,5 +1,5 @@
 use Rattle.tp_engine.specs.State.{plain_of}
-use Rattle.tp_engine.proofs.Start.{starts, placed_at, placed_none}
+use Rattle.tp_engine.proofs.Begun.{starts, placed_at, placed_none}
 use Rattle.tp_engine.proofs.state.State.start.Goals as goal
 
 pub returns-in_default : goal.returns-in_default

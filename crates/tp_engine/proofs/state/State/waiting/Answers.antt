@@ -1,6 +1,6 @@
 use Rattle.std.proofs.Common.{◌++◌, ◌∷◌, [], ap, ◌∙◌}
 use Rattle.tp_engine.specs.Boxes.{messages_of}
-use Rattle.tp_engine.proofs.Start.{waits, waiting_main, first_entry}
+use Rattle.tp_engine.proofs.Begun.{waits, waiting_main, first_entry}
 use Rattle.tp_engine.proofs.state.State.waiting.Goals as goal
 
 pub returns : goal.returns

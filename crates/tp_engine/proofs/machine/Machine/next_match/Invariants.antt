@@ -1,0 +1,12 @@
+use Rattle.std.proofs.Common.{◌≡◌, drop}
+use Rattle.std.specs.List.{position_from}
+use Rattle.tp_engine.specs.Heads.{hits}
+use Rattle.tp_engine.specs.Meets.{clauses_of, found_from}
+use Rattle.tp_engine.proofs.machine.Machine.next_match.Given as goal
+
+-- no clause so far has a unifier with the goal
+abbrev pub invariant-loop-k : goal.invariant-loop-k
+invariant-loop-k l = record {
+  same : l.self ≡ l.fn.self;
+  found : found_from l.fn.self l.task l.call l.k ≡ found_from l.fn.self l.task l.call l.from;
+}
