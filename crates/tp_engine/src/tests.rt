@@ -1,19 +1,17 @@
 //! Steps and runs over a base, with values from outside.
 
-ghost use Rattle.std.specs.Prelude.{◌≡◌, ◌<◌, ◌+◌, length, true, IfOk, OnOk, IfErr, None, Some};
+ghost use Rattle.std.specs.Prelude.{◌≡◌, ◌<◌, length, true, IfOk, OnOk, IsTrue};
 ghost use Rattle.tp_terms.specs.Names.{Grows};
 ghost use Rattle.tp_terms.specs.Shown.{AreNamed};
 ghost use Rattle.tp_engine.specs.Program.{GoalFits};
 ghost use Rattle.tp_engine.specs.Told.{MayStep, MayRewind, MayResume, MayRun};
-ghost use Rattle.tp_engine.specs.declared.phase.Phase.{Phase};
-ghost use Rattle.tp_engine.specs.declared.phase.Stepped.{Stepped};
 
-use crate::{AnswerFault, AnswerView, Answers, Ended, Engine, How, StartFault, Stepped};
+use crate::{AnswerFault, AnswerView, Answers, Ended, Engine, How, Phase, StartFault, Stepped};
 use std::alloc::Global;
 use std::test::Fail;
 use tp_clauses::Base;
 use tp_parse::{ReadTerm, read_goal};
-use tp_terms::Atoms;
+use tp_terms::{Atoms, Binds, Cell};
 
 /// The base of a text.
 fn base_of(alloc: Global, text: &str, atoms: &mut Atoms) -> Result<Base, Fail>
@@ -36,60 +34,127 @@ fn goal_of(alloc: Global, text: &str, base: &Base, atoms: &mut Atoms) -> Result<
     }
 }
 
-/// Another step, which goes on.
-fn goes(engine: &mut Engine<'_>) -> Result<(), Fail>
-    requires { MayStep engine.old.phase engine.old.seen.steps }
-    ensures went { OnOk result (engine.new.phase ≡ Phase.Stepped Stepped.Went) }
-    ensures steps { OnOk result (engine.new.seen.steps ≡ engine.old.seen.steps + 1) }
+// ---- step by step
+
+/// A call, and what it is to answer.
+enum Call {
+    Step(Stepped),
+    Rewind(bool),
+    Resume,
+}
+
+/// Whether a step may come.
+fn may_step(engine: &Engine<'_>) -> bool
+    ensures { IsTrue result → MayStep engine.now.phase engine.now.seen.steps }
 {
-    match engine.step()? {
-        Stepped::Went => Ok(()),
-        _ => Err(Fail::new("no step that goes on")),
+    match engine.phase {
+        Phase::New | Phase::Resumed | Phase::Stepped(Stepped::Went) => engine.steps < u64::MAX,
+        _ => false,
     }
 }
 
-/// Another step, which is an answer.
-fn succeeds(engine: &mut Engine<'_>) -> Result<(), Fail>
-    requires { MayStep engine.old.phase engine.old.seen.steps }
-    ensures phase { OnOk result (engine.new.phase ≡ Phase.Stepped Stepped.Success) }
-    ensures steps { OnOk result (engine.new.seen.steps ≡ engine.old.seen.steps + 1) }
+/// Whether rewinding may come.
+fn may_rewind(engine: &Engine<'_>) -> bool
+    ensures { IsTrue result → MayRewind engine.now.phase }
 {
-    match engine.step()? {
-        Stepped::Success => Ok(()),
-        _ => Err(Fail::new("no answer")),
+    matches!(engine.phase, Phase::Stepped(Stepped::Success | Stepped::Dead(_)))
+}
+
+/// Whether resuming may come.
+fn may_resume(engine: &Engine<'_>) -> bool
+    ensures { IsTrue result → MayResume engine.now.phase }
+{
+    matches!(engine.phase, Phase::Rewound(true))
+}
+
+/// Whether a call may come, and answers what it is to.
+fn agrees(engine: &mut Engine<'_>, call: &Call) -> Result<bool, Fail> {
+    match call {
+        Call::Step(wanted) => Ok(may_step(engine) && engine.step()? == *wanted),
+        Call::Rewind(wanted) => Ok(may_rewind(engine) && engine.rewind() == *wanted),
+        Call::Resume => {
+            if may_resume(engine) {
+                engine.resume()?;
+                Ok(true)
+            } else {
+                Ok(false)
+            }
+        }
     }
 }
 
-/// Back to a choice and on with it.
-fn goes_back(engine: &mut Engine<'_>) -> Result<(), Fail>
-    requires { MayRewind engine.old.phase }
-    ensures phase { OnOk result (engine.new.phase ≡ Phase.Resumed) }
-    ensures steps { OnOk result (engine.new.seen.steps ≡ engine.old.seen.steps) }
-{
-    if engine.rewind() {
-        engine.resume()?;
-        Ok(())
-    } else {
-        Err(Fail::new("no choice"))
+/// Both answers over two facts, one step after the other.
+const WALK: [Call; 9] = [
+    Call::Step(Stepped::Went),
+    Call::Step(Stepped::Went),
+    Call::Step(Stepped::Went),
+    Call::Step(Stepped::Success),
+    Call::Rewind(true),
+    Call::Resume,
+    Call::Step(Stepped::Went),
+    Call::Step(Stepped::Success),
+    Call::Rewind(false),
+];
+
+/// The value of the goal's one named variable.
+fn value(view: &AnswerView<'_>) -> Option<i64> {
+    let [named] = view.named() else {
+        return None;
+    };
+    let place = view.store().bound(named.number)?;
+    if place.at >= view.cells().len() {
+        return None;
+    }
+    match view.cells().get(place) {
+        Cell::Int(value) => Some(value),
+        _ => None,
     }
 }
 
-/// What counts answers.
+/// Whether the one process is `main`.
+fn is_main_alone(view: &AnswerView<'_>) -> bool {
+    if view.processes() != 1 {
+        return false;
+    }
+    let name = view.process_name(0);
+    name.at < view.atoms().len() && view.atoms().name(name) == "main"
+}
+
+/// Whether the second answer over two facts is seen.
+fn shows_second(view: &AnswerView<'_>) -> bool {
+    (view.number(), view.steps(), view.clock()) == (2, 6, 0)
+        && value(view) == Some(2)
+        && view.events().len() == 2
+        && is_main_alone(view)
+        && view.ops().infix("then").is_some()
+}
+
+/// Whether the calls of the walk answer what they are to, and what is seen then.
+fn walk(engine: &mut Engine<'_>) -> Result<bool, Fail> {
+    for call in &WALK {
+        if !agrees(engine, call)? {
+            return Ok(false);
+        }
+    }
+    Ok(shows_second(&engine.view()))
+}
+
+// ---- whole runs
+
+/// The number of the last answer.
 #[derive(Drop)]
-struct Count {
+struct Last {
     number: u64,
 }
 
-impl Answers for Count {
-    ghost use Rattle.std.specs.Prelude.{Option, None, []};
+impl Answers for Last {
+    ghost use Rattle.std.specs.Prelude.{◌≡◌};
 
-    ghost shown = { λ c. None };
+    ghost takes = { λ before answer now. now.number ≡ answer.number };
 
-    ghost adds = { λ c a. [] };
+    ghost leaves = { λ before answer fault now. Unit {0} };
 
-    ghost leaves = { λ c a fault d. Unit {0} };
-
-    ghost faults = { λ c. 0 };
+    ghost faults = { λ last. 0 };
 
     fn answer(&mut self, view: &AnswerView<'_>) -> Result<(), AnswerFault> {
         self.number = view.number();
@@ -97,82 +162,34 @@ impl Answers for Count {
     }
 }
 
-/// The first answer over two facts.
-fn first(engine: &mut Engine<'_>) -> Result<(), Fail>
-    requires phase { engine.old.phase ≡ Phase.New }
-    requires steps { engine.old.seen.steps ≡ 0 }
-    ensures phase { OnOk result (engine.new.phase ≡ Phase.Stepped Stepped.Success) }
-    ensures steps { OnOk result (engine.new.seen.steps ≡ 4) }
+/// Whether a run with six steps for three answers ends so, and the last answer has its number.
+fn run(engine: &mut Engine<'_>) -> Result<bool, Fail>
+    requires { MayRun engine.old.phase }
 {
-    goes(engine)?;
-    goes(engine)?;
-    goes(engine)?;
-    succeeds(engine)
-}
-
-/// The second answer, by the way back.
-fn second(engine: &mut Engine<'_>) -> Result<(), Fail>
-    requires phase { engine.old.phase ≡ Phase.Stepped Stepped.Success }
-    requires steps { engine.old.seen.steps ≡ 4 }
-    ensures { OnOk result (engine.new.phase ≡ Phase.Stepped Stepped.Success) }
-{
-    goes_back(engine)?;
-    goes(engine)?;
-    succeeds(engine)
-}
-
-/// The number of steps and of answers, where there is no further way back.
-fn last(engine: &mut Engine<'_>) -> Result<(u64, u64), Fail>
-    requires { engine.old.phase ≡ Phase.Stepped Stepped.Success }
-{
-    if engine.rewind() {
-        return Err(Fail::new("a choice too many"));
-    }
-    let view = engine.view();
-    Ok((view.steps(), view.number()))
-}
-
-/// Six steps over two facts, the way back, and no further way back.
-fn walk(engine: &mut Engine<'_>) -> Result<(u64, u64), Fail>
-    requires phase { engine.old.phase ≡ Phase.New }
-    requires steps { engine.old.seen.steps ≡ 0 }
-{
-    first(engine)?;
-    second(engine)?;
-    last(engine)
-}
-
-/// A run with six steps for three answers, and the number of answers that were handed over.
-fn run(engine: &mut Engine<'_>) -> Result<(Ended, u64), Fail>
-    requires { engine.old.phase ≡ Phase.New }
-{
-    let mut count = Count { number: 0 };
-    match engine.run_to_end(6, 3, &mut count) {
-        Ok(ended) => Ok((ended, count.number)),
+    let mut last = Last { number: 0 };
+    match engine.run_to_end(6, 3, &mut last) {
+        Ok(ended) => Ok(ended == BOTH && last.number == 2),
         Err(_) => Err(Fail::new("no end")),
     }
 }
 
+/// Both answers over two facts, and no more.
+const BOTH: Ended = Ended {
+    steps: 6,
+    found: 2,
+    failed: 0,
+    deadlock: 0,
+    late: 0,
+    how: How::NoMore,
+};
+
+// ---- rows
+
 /// What is to come of a goal.
 enum Wanted {
-    /// Steps and answers of a walk.
-    Walk(u64, u64),
-    /// A run's end and the number of answers that were handed over.
-    Run(Ended, u64),
-    /// No engine.
+    Walk,
+    Run,
     Fault(StartFault),
-}
-
-/// Whether an engine does what is wanted.
-fn does(engine: &mut Engine<'_>, wanted: &Wanted) -> Result<bool, Fail>
-    requires phase { engine.old.phase ≡ Phase.New }
-    requires steps { engine.old.seen.steps ≡ 0 }
-{
-    match wanted {
-        Wanted::Walk(steps, number) => Ok(walk(engine)? == (*steps, *number)),
-        Wanted::Run(ended, number) => Ok(run(engine)? == (*ended, *number)),
-        Wanted::Fault(_) => Ok(false),
-    }
 }
 
 /// Whether a goal over a base does what is wanted.
@@ -186,58 +203,28 @@ fn starts(
     requires base { AreNamed (length atoms) base.now.cells }
     requires goal { GoalFits atoms goal.now }
 {
-    match Engine::new(alloc, base, atoms, goal) {
-        Ok(mut engine) => does(&mut engine, wanted),
-        Err(fault) => Ok(matches!(wanted, Wanted::Fault(other) if *other == fault)),
+    match (Engine::new(alloc, base, atoms, goal), wanted) {
+        (Ok(mut engine), Wanted::Walk) => walk(&mut engine),
+        (Ok(mut engine), Wanted::Run) => run(&mut engine),
+        (Err(fault), Wanted::Fault(other)) => Ok(fault == *other),
+        _ => Ok(false),
     }
 }
 
-/// Whether the goal of a text over a base does what is wanted.
-fn asks(
-    alloc: Global,
-    base: &Base,
-    mut atoms: Atoms,
-    goal: &str,
-    wanted: &Wanted,
-) -> Result<bool, Fail>
-    requires { AreNamed (length atoms) base.now.cells }
-{
-    let goal = goal_of(alloc, goal, base, &mut atoms)?;
-    starts(alloc, base, atoms, &goal, wanted)
-}
-
 /// Whether the goal of a text over the base of a text does what is wanted.
-fn agrees(alloc: Global, text: &str, goal: &str, wanted: &Wanted) -> Result<bool, Fail> {
+fn asks(alloc: Global, text: &str, goal: &str, wanted: &Wanted) -> Result<bool, Fail> {
     let mut atoms = Atoms::start(alloc)?;
     let base = base_of(alloc, text, &mut atoms)?;
-    asks(alloc, &base, atoms, goal, wanted)
+    let goal = goal_of(alloc, goal, &base, &mut atoms)?;
+    starts(alloc, &base, atoms, &goal, wanted)
 }
 
-/// Six steps of a walk, and two answers.
-const WALK: Wanted = Wanted::Walk(6, 2);
-
-/// A run of six steps that finds both answers, and has no more.
-const RUN: Wanted = Wanted::Run(
-    Ended {
-        steps: 6,
-        found: 2,
-        failed: 0,
-        deadlock: 0,
-        late: 0,
-        how: How::NoMore,
-    },
-    2,
-);
+const FACTS: &str = ":- op(200, xfy, then). p(1). p(2).";
 
 #[test]
-fn steps_and_the_way_back(rt: HostRuntime) -> Result<(), Fail> {
-    assert!(rt; agrees(rt.alloc(), "p(1). p(2).", "p(X)", &WALK)?);
-    Ok(())
-}
-
-#[test]
-fn a_run_and_an_integer_that_is_no_goal(rt: HostRuntime) -> Result<(), Fail> {
-    assert!(rt; agrees(rt.alloc(), "p(1). p(2).", "p(X)", &RUN)?);
-    assert!(rt; agrees(rt.alloc(), "", "1", &Wanted::Fault(StartFault::Body))?);
+fn steps_and_runs(rt: HostRuntime) -> Result<(), Fail> {
+    assert!(rt; asks(rt.alloc(), FACTS, "p(X)", &Wanted::Walk)?);
+    assert!(rt; asks(rt.alloc(), FACTS, "p(X)", &Wanted::Run)?);
+    assert!(rt; asks(rt.alloc(), "", "1", &Wanted::Fault(StartFault::Body))?);
     Ok(())
 }

@@ -35,8 +35,9 @@ use Rattle.tp_engine.specs.Machine.{IsMachine, SameProgram, base_in, choices_of,
 use Rattle.tp_engine.specs.Run.{EndsAt, IsCutAt, IsRun, Turns, answers_by, counted, ended_by, found_by, next_answer, tally_of, turn_to}
 use Rattle.tp_engine.specs.Told.{Told, seen_of, told_of}
 use Rattle.tp_engine.proofs.Finds.Taken.{numbered-append, took-append}
-use Rattle.tp_engine.proofs.Finds.Turns.{found_after, same_on}
+use Rattle.tp_engine.proofs.Finds.Turns.{found_after}
 use Rattle.tp_engine.proofs.Program.{base_fits}
+use Rattle.tp_engine.proofs.SamePrograms.{same_trans}
 
 -- ---- a step, counted
 
@@ -159,7 +160,7 @@ module _ {A : Type 0} (takes : A → Answer → A → Type 0) (start : Machine) 
       answers = (found new d now None t).answers;
       count = count_is new d now None t;
       machine = t.machine;
-      same = same_on start old new run.same t.same;
+      same = same_trans start old new run.same t.same;
       meaning = t.meaning ∙ run.meaning;
       bound = (let a = t.bound in let b = run.bound in omega (arith, steps_are new d now None t));
       fit = t.fit;

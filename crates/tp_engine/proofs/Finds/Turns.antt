@@ -2,7 +2,6 @@
 use Rattle.std.proofs.Common.{◌≡◌, ℕ, ◌+◌, ◌<◌, Bool, true, false, cond, nat_lt, List, [], ◌∷◌, length, Option, Some, None, IfSome, refl, ap, sym, subst, ◌∙◌, arith, length-append, ◌⊎◌, inl, inr}
 use borrow.Author.Tests.{lt-ltb, le-ltb}
 use Rattle.tp_terms.specs.Term.{Term}
-use Rattle.tp_terms.proofs.NameLemmas.{Grows-trans}
 use Rattle.tp_meaning.specs.World.{World}
 use Rattle.tp_meaning.specs.Search as search
 use Rattle.tp_meaning.specs.Search.{Outcome, Searched}
@@ -26,10 +25,7 @@ use Rattle.tp_engine.specs.Answers.{Answer, Took, answer_in}
 use Rattle.tp_engine.specs.Machine.{IsMachine, SameProgram, Steps, Rewinds, Resumes, answer_by, base_in, state_in, world_in}
 use Rattle.tp_engine.specs.Run.{CountsFit, EndsAt, Follows, GoesBack, IsCutAt, Turns, answers_by, counted, found_by, next_answer, turn_to}
 use Rattle.tp_engine.specs.Told.{seen_of}
-
--- names are added to those that were added
-pub same_on : (old mid new : Machine) → SameProgram old mid → SameProgram mid new → SameProgram old new
-same_on old mid new h k = record { base = k.base ∙ h.base; goal = k.goal ∙ h.goal; names = Grows-trans old.atoms mid.atoms new.atoms h.names k.names }
+use Rattle.tp_engine.proofs.SamePrograms.{same_trans}
 
 -- ---- the way back
 
@@ -47,7 +43,7 @@ back_by t o = elim o [ None ↦ Ends (ended (search.Fails None) t) | Some r ↦ 
 pub went_back : (old mid new : Machine) → Rewinds old true mid → Resumes mid new → GoesBack old None new
 went_back old mid new r s = record {
   machine = s.machine;
-  same = same_on old mid new r.same s.same;
+  same = same_trans old mid new r.same s.same;
   meaning = s.meaning ∙ r.meaning;
   bound = (let lt = r.machine.1 in omega (arith, s.bound));
   stays = tt;
@@ -159,7 +155,7 @@ turns takes wanted old mid new c d before now r how st e fit took f = record {
   answer = r;
   world = world_in mid;
   machine = f.machine;
-  same = same_on old mid new st.same f.same;
+  same = same_trans old mid new st.same f.same;
   meaning = f.meaning ∙ st.meaning;
   bound = (let b = f.bound in omega (arith, st.bound));
   counts = e;
@@ -207,7 +203,7 @@ module _ {A : Type 0} (takes : A → Answer → A → Type 0) (leaves : A → An
   -- and behind it
   pub cut_behind : (r : Stepped) → Steps old mid r → d ≡ counted r c → Took takes before (answers_by r (answer_in (seen_of mid d.found d.steps))) now → SameProgram mid new → fault ≡ why.NoMemory → IsCutAt takes leaves old c fault before now new
   cut_behind r st e took same memory = record {
-    same = same_on old mid new st.same same;
+    same = same_trans old mid new st.same same;
     write = λ q. absurd (let k : why.NoMemory ≡ why.Write = sym memory ∙ q in cc);
     cut = go r refl took;
   }

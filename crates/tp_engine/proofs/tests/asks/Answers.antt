@@ -5,4 +5,4 @@ use Rattle.tp_engine.proofs.tests.asks.Goals as goal
 
 pub starts-requires-clause-base : goal.starts-requires-clause-base
 starts-requires-clause-base c =
-    AreNamed-longer (length c.args.atoms) (length c.goal_of.new.atoms) c.args.base.now.cells (Grows-length c.args.atoms c.goal_of.new.atoms c.in_ok-goal.ensures.grows) c.requires
+    AreNamed-longer (length c.base_of.new.atoms) (length c.goal_of.new.atoms) c.in_ok-base.base.cells (Grows-length c.base_of.new.atoms c.goal_of.new.atoms c.in_ok-goal.ensures.grows) c.in_ok-base.ensures
