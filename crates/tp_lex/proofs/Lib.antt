@@ -1,3 +1,4 @@
+pub mod CharacterLemmas
 pub mod TokensLemmas
 pub mod NextLemmas
 pub mod MeaningLemmas
