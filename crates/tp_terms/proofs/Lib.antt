@@ -3,3 +3,4 @@ pub mod TextLemmas
 pub mod NameLemmas
 pub mod StartLemmas
 pub mod BindsLemmas
+pub mod AddedLemmas

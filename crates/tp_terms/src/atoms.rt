@@ -1,6 +1,6 @@
 //! The table of names.
 
-ghost use Rattle.std.specs.Prelude.{◌≡◌, ℕ, ◌<◌, length, slice_get, map, chars, encode_utf8_all, Some, IfOk, OnOk, OnErr};
+ghost use Rattle.std.specs.Prelude.{◌≡◌, ℕ, ◌<◌, length, slice_get, map, chars, encode_utf8_all, Some, IsOk, IsOkAnd, IfOk, OnOk, OnErr};
 ghost use Rattle.tp_terms.specs.Shown.{name_at};
 ghost use Rattle.tp_terms.specs.Names.{names_of, with_name, with_names, IsTable, Grows};
 ghost use Rattle.tp_terms.specs.StartNames.{start_names};
@@ -46,7 +46,7 @@ impl Atoms {
 
     /// The one place of a name. A name that isn't in the table is added at its end.
     ///
-    /// Answers `NoMemory` where the memory for it isn't had, and then the table is as before.
+    /// Answers `NoMemory` where the memory for a new name isn't had, and then the table is as before.
     pub fn intern(&mut self, name: &str) -> Result<AtomId, NoMemory>
         ensures place { IfOk result (λ atom. slice_get self.new atom.at ≡ Some (chars name.now)) }
         ensures names { OnOk result (self.new ≡ with_name self.old (chars name.now)) }
@@ -54,6 +54,12 @@ impl Atoms {
         ensures grows { Grows self.old self.new }
         ensures table { IsTable self.new }
         ensures err { OnErr result (self.new ≡ self.old) }
+
+        // A name that is there takes no memory: its place is answered, and the table stays.
+        ensures known { (at : ℕ) → slice_get self.old at ≡ Some (chars name.now) →
+            IsOkAnd result (λ atom. atom.at ≡ at) }
+        ensures stays { (at : ℕ) → slice_get self.old at ≡ Some (chars name.now) →
+            self.new ≡ self.old }
     {
         let at = find_or_add(&mut self.names, name)?;
         Ok(AtomId { at })
@@ -83,6 +89,7 @@ fn find_or_add(names: &mut IndexSet<String>, name: &str) -> Result<usize, NoMemo
     ensures place { IfOk result (λ at. slice_get (names_of names.new.keys) at ≡ Some (chars name.now)) }
     ensures names { OnOk result (names_of names.new.keys ≡ with_name (names_of names.old.keys) (chars name.now)) }
     ensures err { OnErr result (names_of names.new.keys ≡ names_of names.old.keys) }
+    ensures known { (at : ℕ) → slice_get (names_of names.old.keys) at ≡ Some (chars name.now) → IsOk result }
 {
     if let Some(at) = names.get_index_of(name) {
         return Ok(at);
