@@ -28,10 +28,10 @@ impl<F> Opened<F> {
     }
 }
 
-/// The files that a runtime reaches. A name is a path. The file stays open from one piece to the next,
-/// so that a pipe can be read: a read that goes on where the last one ended reads on, and each other
-/// one opens the file anew. Every error is a fault, also that a file isn't there or that memory is
-/// refused, and then no file stays open.
+/// The files that a runtime reaches. A name is a path. The file stays open from one piece to the
+/// next, so that a pipe can be read: a read that goes on where the last one ended reads on, and each
+/// other one opens the file anew. Every error is a fault, also that a file isn't there or that
+/// memory is refused, and then no file stays open.
 #[derive(Drop)]
 pub struct FileShelf<'a, R: Files> {
     rt: &'a R,
@@ -132,7 +132,8 @@ impl<R: Files + AllocGlobal> Shelf for FileShelf<'_, R> {
     }
 }
 
-/// The standard output that a runtime reaches. Every error is a fault, and so is a write of 0 bytes.
+/// The standard output that a runtime reaches. Every error is a fault, and so is a write of 0
+/// bytes.
 #[derive(Drop)]
 pub struct OutSink<'a, R> {
     rt: &'a R,
@@ -163,8 +164,9 @@ impl<R: Print> Sink for OutSink<'_, R> {
 
     ghost faults = { λ s. s };
 
-    /// The host's `write_some` is one call of `write` on the descriptor, with no buffer between: the
-    /// bytes that this says were taken are out, and nothing is left to flush when the program ends.
+    /// The host's `write_some` is one call of `write` on the descriptor, with no buffer between:
+    /// the bytes that this says were taken are out, and nothing is left to flush when the program
+    /// ends.
     fn write(&mut self, piece: &[u8]) -> Result<usize, Failed>
         requires { 0 < length piece.now }
         ensures never_falls { self.old ≤ self.new }

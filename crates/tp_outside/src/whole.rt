@@ -38,8 +38,8 @@ pub struct WriteFault;
 /// Reads all the bytes that are held under a name, at most [`LONGEST_TEXT`].
 ///
 /// # Errors
-/// `Fault` at the first read that fails. `TooLong` where one byte more was read, for which no memory
-/// is taken, and no further one is read. `NoMemory` where memory for the bytes was refused.
+/// `Fault` at the first read that fails. `TooLong` where one byte more was read, for which no
+/// memory is taken, and no further one is read. `NoMemory` where memory for the bytes was refused.
 pub fn read_all<S: Shelf>(alloc: Global, shelf: &mut S, name: &str) -> Result<Vec<u8>, ReadError>
     ensures held_stays { S.held shelf.new ≡ S.held shelf.old }
     ensures never_falls { S.faults shelf.old ≤ S.faults shelf.new }
@@ -59,11 +59,10 @@ pub fn read_all<S: Shelf>(alloc: Global, shelf: &mut S, name: &str) -> Result<Ve
 
     ensures fault { IsErrOf result ReadError.Fault →
         ReadFails (S.held shelf.old) name.now (S.faults shelf.old) (S.faults shelf.new) }
-
     ensures fault_given { IsErrOf result ReadError.Fault →
         S.given shelf.new ≤ S.given shelf.old + LONGEST_TEXT }
 
-    // Want of memory comes only behind bytes that were given, of a name that is held, without a fault.
+    // Want of memory comes only behind bytes that were given, of a held name, without a fault.
     ensures no_memory { IsErrOf result ReadError.NoMemory →
         HoldsMore (S.held shelf.old) name.now 0 }
     ensures no_memory_no_fault { IsErrOf result ReadError.NoMemory →

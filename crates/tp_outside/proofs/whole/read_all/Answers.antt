@@ -2,8 +2,8 @@ use Rattle.std.proofs.Common.{◌≡◌, ◌+◌, ◌++◌, length, take, arith,
 use Rattle.std.proofs.lemmas.Grind.{common_steps}
 use Rattle.std.proofs.lemmas.List.{length-take-le}
 use Rattle.tp_outside.specs.Count.{given_more}
-use Rattle.tp_outside.proofs.CountLemmas.{given_more-given_more}
-use Rattle.tp_outside.proofs.TextLemmas.{front_more}
+use Rattle.tp_outside.proofs.ReadsWhole.Counts.{given_more-given_more}
+use Rattle.tp_outside.proofs.ReadsWhole.Fronts.{front_more}
 use Rattle.tp_outside.proofs.whole.read_all.Goals as goal
 
 pub pieces-preserved : goal.pieces-preserved

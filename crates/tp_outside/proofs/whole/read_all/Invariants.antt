@@ -1,6 +1,6 @@
 use Rattle.std.proofs.Common.{◌≡◌, ℕ, ◌+◌, ◌-◌, ◌<◌, ◌≤◌, length}
 use Rattle.tp_outside.specs.Count.{given_more}
-use Rattle.tp_outside.proofs.TextLemmas.{IsFront}
+use Rattle.tp_outside.proofs.ReadsWhole.Fronts.{IsFront}
 use Rattle.tp_outside.proofs.whole.read_all.Given as goal
 
 -- a front of what is held was read and counted, without a fault
