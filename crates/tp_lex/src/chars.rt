@@ -9,7 +9,8 @@ ghost use Rattle.tp_lex.specs.Characters.{is_letter_digit, is_name_start, is_var
 /// A class of characters that a name goes on with.
 #[derive(Clone, Copy, Debug, PartialEq, Eq)]
 pub enum Class {
-    /// What goes on a letter-digit name or a variable: letters, digits, `_`, and what Unicode's `XID_Continue` has more.
+    /// What goes on a letter-digit name or a variable: Unicode's `XID_Continue`, which has letters,
+    /// digits, `_` and more.
     Continuing,
     /// Graphic characters, after ISO/IEC 13211-1, 6.5.1.
     Graphic,
@@ -17,7 +18,8 @@ pub enum Class {
 
 /// The first character, and what follows it; none where the text is empty. Takes no memory.
 pub fn split_first(text: &str) -> Option<(char, &str)>
-    ensures split { MatchOption result (chars text.now ≡ []) (λ p. chars text.now ≡ p.0 ∷ chars p.1.now) }
+    ensures split { MatchOption result (chars text.now ≡ [])
+        (λ p. chars text.now ≡ p.0 ∷ chars p.1.now) }
     ensures utf8 { IfSome result (λ p. IsUtf8 p.1.now) }
 {
     let mut rest = text.chars();
@@ -25,14 +27,16 @@ pub fn split_first(text: &str) -> Option<(char, &str)>
     Some((first, rest.as_str()))
 }
 
-/// Whether the character is layout: space, tab, newline, vertical tab, form feed or carriage return.
+/// Whether the character is layout: space, tab, newline, vertical tab, form feed or carriage
+/// return.
 pub fn is_layout(c: char) -> bool
     ensures { result ≡ is_layout c }
 {
     matches!(c, '\t'..='\r' | ' ')
 }
 
-/// Whether a letter-digit name begins with the character: Unicode's `XID_Start` has it, and it is no ASCII capital.
+/// Whether a letter-digit name begins with the character: Unicode's `XID_Start` has it, and it is
+/// no ASCII capital.
 pub fn is_name_start(c: char) -> bool
     ensures { result ≡ is_name_start c }
 {
@@ -73,7 +77,8 @@ pub fn are_in_class(class: Class, text: &str) -> bool
     text.chars().all(|c| is_in_class(class, c))
 }
 
-/// Whether the text is a letter-digit name: a character that begins one, and only characters that go on with it.
+/// Whether the text is a letter-digit name: a character that begins one, and only characters that
+/// go on with it.
 pub fn is_letter_digit(name: &str) -> bool
     ensures { result ≡ is_letter_digit (chars name.now) }
 {

@@ -74,7 +74,8 @@ fn integer_form(text: &str) -> Result<(TokenKind, &str), Fault>
 
 /// A token between quotes, from behind the opening one.
 fn quotes_form(text: &str, mark: char, kind: TokenKind) -> Result<(TokenKind, &str), Fault>
-    ensures value { answer beside_chars result ≡ quotes_form kind (after_closing (inside mark (chars text.now))) }
+    ensures value { answer beside_chars result
+        ≡ quotes_form kind (after_closing (inside mark (chars text.now))) }
     ensures utf8 { IfOk result (λ p. IsUtf8 p.1.now) }
 {
     match after_inside(text, mark) {
