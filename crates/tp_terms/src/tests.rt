@@ -63,11 +63,11 @@ fn worked_rows(rt: HostRuntime) -> Result<(), Fail> {
         assert_eq!(rt; atoms.name(atom), name);
     }
     let at_start = atoms.len();
-    for _ in 0..2 {
-        let atom = atoms.intern("zz")?;
-        assert_eq!(rt; atoms.name(atom), "zz");
-        assert_eq!(rt; (atom.at, atoms.len()), (at_start, at_start + 1));
-    }
+    let first = atoms.intern("zz")?;
+    let second = atoms.intern("zz")?;
+    assert_eq!(rt; (first, first.at), (second, at_start));
+    assert_eq!(rt; atoms.name(second), "zz");
+    assert_eq!(rt; atoms.len(), at_start + 1);
 
     let (mut cells, whole) = pair(rt.alloc())?;
     assert_eq!(rt; (cells.len(), whole.at), (3, 2));
