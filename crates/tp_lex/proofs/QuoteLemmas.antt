@@ -1,10 +1,7 @@
 -- The inside of quotes, one item at a time.
-use Rattle.std.proofs.Common.{◌≡◌, ℕ, zero, suc, ◌<◌, ◌≤◌, List, [], ◌∷◌, ◌++◌, length, chars, encode_utf8, Ok, Err, refl, sym, ap, ◌∙◌, arith, append-nil}
+use Rattle.std.proofs.Common.{◌≡◌, ℕ, zero, suc, ◌<◌, ◌≤◌, List, [], ◌∷◌, ◌++◌, length, Ok, Err, refl, sym, ap, ◌∙◌, arith, append-nil}
 use Rattle.std.specs.Prelude.{Result, IsOk}
 use Rattle.std.proofs.Common.{append_assoc}
-use Rattle.std.specs.Char.{IsScalar}
-use Rattle.std.specs.Str.{IsUtf8}
-use Rattle.std.proofs.lemmas.Str.{chars-append, chars_past_char, chars-nil, IsUtf8-encode}
 use Rattle.tp_lex.specs.Quotes.{item, with_first, items, inside, stood_for, after_closing, item_chars}
 use Rattle.tp_lex.specs.declared.token.Fault.{Fault}
 use Rattle.tp_lex.specs.declared.quotes.Item.{Item}

@@ -1,5 +1,5 @@
 -- The names of the start: they are a table, and they stand first in every table.
-use Rattle.std.proofs.Common.{◌≡◌, ℕ, zero, suc, ◌<◌, nat_eq, Bool, true, false, not, ◌&&◌, List, [], ◌∷◌, Some, length, take, drop, map, slice_get, refl, sym, ap, subst, ◌∙◌, true≢false, arith, length-take}
+use Rattle.std.proofs.Common.{◌≡◌, ℕ, zero, suc, ◌<◌, nat_eq, Bool, true, not, ◌&&◌, List, [], ◌∷◌, Some, length, take, drop, map, slice_get, refl, sym, ap, subst, ◌∙◌, true≢false, arith, length-take}
 use Rattle.std.proofs.lemmas.List.{take-append-drop, take_all}
 use Rattle.std.proofs.lemmas.Bool.{and_parts}
 use Rattle.std.proofs.lemmas.Option.{slice_get_within, same_Some}

@@ -2,9 +2,9 @@
 use Rattle.std.proofs.Common.{◌≡◌, ℕ, Bool, true, false, List, refl, sym, ap, ◌∙◌}
 use Rattle.std.proofs.lemmas.Bool.Decides.{same_from_decides, not_from_Decides}
 use Rattle.std.proofs.lemmas.Slice.Eq.{bytes_eq-Decides}
-use Rattle.std.proofs.lemmas.Str.{encodes-chars, chars-encodes}
+use Rattle.std.proofs.lemmas.Str.{encodes-chars}
 use Rattle.std.specs.Bool.{Decides}
-use Rattle.std.specs.Str.{IsUtf8, chars, bytes_eq, encode_utf8_all, all_scalars}
+use Rattle.std.specs.Str.{IsUtf8, chars, bytes_eq, encode_utf8_all}
 use Rattle.tp_terms.specs.Term.{Name, names_eq}
 
 -- `names_eq` decides equality

@@ -60,8 +60,8 @@ impl Model for Cells {
     ghost use Rattle.tp_terms.specs.Shown.{AreBuilt};
 
     ghost view = { λ c. record {
-        items = c.cells.items;
-        room = vec_capacity c.cells - vec_len c.cells;
+      items = c.cells.items;
+      room = vec_capacity c.cells - vec_len c.cells;
     } };
 
     ghost invariant = { λ c. AreBuilt c.cells.items };
