@@ -30,6 +30,7 @@ front_under_more : (o : Option (List ℕ)) (bytes piece : List ℕ) (n : ℕ) �
 front_under_more None bytes piece n fits front gives = absurd gives
 front_under_more (Some held) bytes piece n fits front gives = front_of_more held bytes piece n fits front gives
 
+-- the same of the bytes that are held under a name
 pub front_more : (held : Option Files) (name bytes piece : List ℕ) (n : ℕ) → n ≤ length piece → IsFront held name bytes → ReadGives held name (length bytes) n piece → IsFront held name (bytes ++ take n piece)
 front_more None name bytes piece n fits front gives = tt
 front_more (Some files) name bytes piece n fits front gives = front_under_more (held_under files name) bytes piece n fits front gives
