@@ -3,7 +3,7 @@ use Rattle.std.proofs.Common.{◌≡◌, ℕ, zero, suc, Bool, true, false, ◌&
 use Rattle.std.proofs.lemmas.List.{append-nil}
 use Rattle.std.proofs.lemmas.List.Folds.{list_all-append}
 use Rattle.std.specs.List.{list_all, list_any}
-use Rattle.tp_terms.specs.Term.{Name, Term, Terms, names_eq}
+use Rattle.tp_terms.specs.Term.{Name, Term, names_eq}
 use Rattle.tp_terms.specs.Names.{with_name}
 use Rattle.tp_terms.proofs.TextLemmas.{names_eq-same}
 use Rattle.tp_parse.specs.Tree.{Tree, Trees, Variable, Integer, Atom, Compound, none, first_of}

@@ -1,5 +1,5 @@
 -- What the reader's functions answer, against the reading of lists of tokens.
-use Rattle.std.specs.Prelude.{◌≡◌, ℕ, ◌^◌, pos, nat_lt, nat_le, if◌then◌else◌, ◌<◌, List, [], ◌∷◌, Option, Some, None, Result, Ok, Err}
+use Rattle.std.specs.Prelude.{◌≡◌, ℕ, Bool, true, false, ◌^◌, pos, nat_lt, if◌then◌else◌, ◌<◌, List, [], ◌∷◌, Option, Some, None, Result, Ok, Err}
 use Rattle.tp_terms.specs.Term.{Name}
 use Rattle.tp_lex.specs.Tokens.{Lexed}
 use Rattle.tp_parse.specs.Tree.{Tree, Integer, Variable, Compound, Trees, none, first_of, unary, list_cell, integers}
@@ -115,6 +115,13 @@ GivesPart more tree q before old new ts left (Ok None) r = IsNoPart tree q old n
 GivesPart more tree q before old new ts left (Ok (Some p)) r = IsPart more p before new left r
 GivesPart more tree q before old new ts left (Err stop) r = Fails left stop r
 
+-- a token that is a whole term
+abbrev pub begins_leaf : TokenKind → Bool
+begins_leaf kind.Integer = true
+begins_leaf kind.Variable = true
+begins_leaf kind.Codes = true
+begins_leaf k = false
+
 -- the first part of a term that has no terms in it, by the token that it begins with and what is behind
 abbrev pub simple : Lexed → List Lexed → TokenKind → Read Term
 simple t ts kind.Integer = if nat_lt t.value (2 ^ 63) then Ok (Integer (pos t.value), 0, ts) else Err (cause.Number, t ∷ ts)
@@ -123,8 +130,8 @@ simple t ts kind.Codes = Ok (integers t.name, 0, ts)
 simple t ts k = Err (cause.Syntax, t ∷ ts)
 
 -- a prefix operator with its operand, from behind its name
-abbrev pub operand : Inner → ℕ → Name → List Lexed → Op → Read Term
-operand inner p f ts o = if nat_le o.0 p then (inner (right_bound o) ts >>= λ r. Ok (unary f r.0, o.0, r.2)) else Err (cause.Syntax, ts)
+abbrev pub operand : Inner → Name → List Lexed → Op → Read Term
+operand inner f ts o = inner (right_bound o) ts >>= λ r. Ok (unary f r.0, o.0, r.2)
 
 -- a compound, from behind its name
 abbrev pub compound : Inner → Name → List Lexed → Read Term

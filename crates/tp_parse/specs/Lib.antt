@@ -10,6 +10,7 @@ pub mod Texts
 pub mod Words
 pub mod Steps
 pub mod Gives
+pub mod Progress
 pub mod Making
 pub mod Whole
 pub mod NewNames

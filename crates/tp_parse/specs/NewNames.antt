@@ -1,5 +1,5 @@
 -- The names of a term, and what a reading adds to a table of names.
-use Rattle.std.specs.Prelude.{◌≡◌, Bool, true, false, ◌||◌, List, [], ◌∷◌, ◌++◌, IsTrue}
+use Rattle.std.specs.Prelude.{◌≡◌, Bool, false, ◌||◌, List, ◌++◌, IsTrue}
 use Rattle.std.specs.List.{list_all, list_any}
 use Rattle.tp_terms.specs.Term.{Name, Term, Terms, Var, Int, Atom, Comp, NoMore, More, names_eq}
 use Rattle.tp_parse.specs.Tree as tree

@@ -125,6 +125,12 @@ abbrev pub operator_by : Option Op → Bool → Option Op
 operator_by op true = None
 operator_by op false = op
 
+-- behind an element, a token that ends the list or stands before its tail
+abbrev pub ends_list : TokenKind → Bool
+ends_list kind.CloseList = true
+ends_list kind.Bar = true
+ends_list k = false
+
 -- the operator that a name is, where it is no atom
 abbrev pub operator_of : Word → List Word → Option Op
 operator_of w ws = operator_by w.as_prefix (atom_before (first_word ws) (first_word (after_word ws)))

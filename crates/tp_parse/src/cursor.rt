@@ -116,7 +116,8 @@ impl<'a> Cursor<'a> {
     /// Passes the closing token that must stand there.
     #[tactic(auto, unfolding(crate::specs::Reading::behind))]
     pub fn pass_closing(&mut self, closing: TokenKind) -> Result<(), Stop>
-        ensures behind { (text : List ℕ) → GivesBehind (ahead text self.new) result (behind closing (ahead text self.old)) }
+        ensures behind { (text : List ℕ) →
+            GivesBehind (ahead text self.new) result (behind closing (ahead text self.old)) }
         ensures ok { OnOk result (self.new ≡ after_word self.old) }
         ensures memory { IfErr result (λ stop. ¬ (stop ≡ Stop.NoMemory)) }
         ensures err { OnErr result (self.new ≡ self.old) }

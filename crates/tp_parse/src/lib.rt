@@ -6,6 +6,7 @@ mod cursor;
 mod fault;
 pub mod laws;
 mod leaves;
+mod progress;
 mod read;
 mod reader;
 mod steps;

@@ -15,8 +15,8 @@ use crate::words::{Extent, Source, take_words};
 use std::alloc::Global;
 use tp_terms::{Atoms, Cells, Names, Ref};
 
-/// A term that was read (ISO/IEC 13211-1, clause 6.2). Its variables are numbered from 0 in order of first occurrence,
-/// each `_` having a number of its own.
+/// A term that was read (ISO/IEC 13211-1, clause 6.2). Its variables are numbered from 0 in order of
+/// first occurrence, each `_` having a number of its own.
 #[derive(Drop)]
 pub struct ReadTerm {
     /// The cells of the term.
@@ -33,13 +33,14 @@ pub struct ReadTerm {
     pub to: usize,
 }
 
-/// The clause that stands in the text from a byte on, up to and with its end token; none where no token remains. The
-/// operators are those of `ops`.
+/// The clause that stands in the text from a byte on, up to and with its end token; none where no
+/// token remains, and then `atoms` is as before. The operators are those of `ops`. The names that
+/// are added to `atoms` are names of the term.
 ///
 /// # Errors
-/// `Refused` with the byte and the cause where the text has no clause there, and `NoMemory` where memory was refused.
-/// Both may leave new names in `atoms`; no name changes its place. `NoMemory` comes only where a token stands behind the
-/// byte.
+/// `Refused` with the byte and the cause where the text has no clause there, and `NoMemory` where
+/// memory was refused, which comes only where a token stands behind the byte. Both may leave new
+/// names in `atoms`; no name changes its place.
 pub fn read_clause(
     alloc: Global,
     text: &str,
