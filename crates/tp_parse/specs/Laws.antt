@@ -1,9 +1,12 @@
 -- The laws of reading.
-use Rattle.std.specs.Prelude.{◌≡◌, ℕ, List, ◌++◌, Ok, Err, ◌↔◌, ◌⊎◌}
+use Rattle.std.specs.Prelude.{◌≡◌, ℕ, List, ◌++◌, Some, Ok, Err, ◌↔◌, ◌⊎◌}
+use Rattle.std.specs.Str.{IsUtf8, IsCharBoundary}
 use Rattle.tp_lex.specs.Tokens.{Lexed}
 use Rattle.tp_parse.specs.Tree.{Tree}
 use Rattle.tp_parse.specs.Table.{Table}
 use Rattle.tp_parse.specs.Reading.{reading, clause_reading, goal_reading}
+use Rattle.tp_parse.specs.Texts.{Found, clause_of, goal_of}
+use Rattle.tp_parse.specs.Tells.{IsNumbered, IsPlaced}
 use Rattle.tp_parse.specs.Grammar.{Reads, ReadsClause, ReadsGoal}
 use Rattle.tp_parse.specs.Stopping.{Stops, StopsClause, StopsGoal}
 use Rattle.tp_parse.specs.declared.fault.ReadCause.{ReadCause}
@@ -30,3 +33,12 @@ pub record ReadingFollowsGrammar : Type 0 where
   pub stops_clause : (ops : Table) (ts : List Lexed) (c : ReadCause) (left : List Lexed) → clause_reading ops ts ≡ Err (c, left) ↔ StopsClause ops ts c left
   pub reads_goal : (ops : Table) (ts : List Lexed) (x : Tree) → goal_reading ops ts ≡ Ok x ↔ ReadsGoal ops ts x
   pub stops_goal : (ops : Table) (ts : List Lexed) (c : ReadCause) (left : List Lexed) → goal_reading ops ts ≡ Err (c, left) ↔ StopsGoal ops ts c left
+
+-- what holds of every term that is read: its variables are numbered within their count, and a clause stands behind the
+-- byte from which it is read
+pub record EachTermIsNumbered : Type 0 where
+  pub clauses : (ops : Table) (text : List ℕ) (at : ℕ) (f : Found) → clause_of ops text at ≡ Ok (Some f) → IsNumbered f
+  pub goals : (ops : Table) (text : List ℕ) (f : Found) → goal_of ops text ≡ Ok f → IsNumbered f
+
+abbrev pub EachClauseIsPlaced : Type 0
+EachClauseIsPlaced = (ops : Table) (text : List ℕ) (at : ℕ) (f : Found) → IsUtf8 text → IsCharBoundary text at → clause_of ops text at ≡ Ok (Some f) → IsPlaced text at f

@@ -1,7 +1,7 @@
 //! Each public function once, with values from outside. What is read is shown by the cases of tests/cases, where the
 //! built program reads and writes.
 
-use crate::laws::one_reading;
+use crate::laws::{one_reading, what_is_read};
 use crate::{OpFault, OpType, Ops, ReadCause, ReadFault, ReadTerm, read_clause, read_goal};
 use std::test::Fail;
 use tp_terms::Atoms;
@@ -35,6 +35,7 @@ fn outcome(found: Result<ReadTerm, ReadFault>) -> Result<(usize, u64, usize, usi
 #[test]
 fn each_public_function(rt: HostRuntime) -> Result<(), Fail> {
     one_reading();
+    what_is_read();
     let mut ops = Ops::start(rt.alloc())?;
     let mut atoms = Atoms::start(rt.alloc())?;
     assert_eq!(rt; other_addition(&mut ops, &ADDED), None);

@@ -5,8 +5,8 @@ use Rattle.tp_terms.specs.Term.{Var, Int, Atom}
 use Rattle.tp_terms.proofs.NameLemmas.{name_at-slice_get}
 use Rattle.tp_parse.specs.Numbers.{Numbers, number_of}
 use Rattle.tp_parse.specs.Steps.{label_name}
-use Rattle.tp_parse.proofs.NewNamesLemmas.{AddsOnly-same, names-atom, names-compound}
-use Rattle.tp_parse.proofs.BuildLemmas.{made-leaf, made-grows, made-gather}
+use Rattle.tp_parse.proofs.Numbered.NewNames.{AddsOnly-same, names-atom, names-compound}
+use Rattle.tp_parse.proofs.Numbered.Cells.{made-leaf, made-grows, made-gather}
 use Rattle.tp_parse.proofs.build.take_step.Goals as goal
 
 pub returns-in_ok-push-in-Variable-clause-made : goal.returns-in_ok-push-in-Variable-clause-made

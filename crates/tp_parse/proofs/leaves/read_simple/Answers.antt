@@ -6,8 +6,8 @@ use Rattle.tp_parse.specs.Tree.{Integer, Variable}
 use Rattle.tp_parse.specs.Steps.{trees_of}
 use Rattle.tp_parse.specs.Gives.{simple}
 use Rattle.tp_parse.specs.Words.{ahead, lexed_of, after_word}
-use Rattle.tp_parse.proofs.WordLemmas.{first-known}
-use Rattle.tp_parse.proofs.ReadLemmas.{going-after, going-step, read-step, simple-integer}
+use Rattle.tp_parse.proofs.ReadsTerms.Words.{first-known}
+use Rattle.tp_parse.proofs.ReadsTerms.Exits.{going-after, going-step, read-step, simple-integer}
 use Rattle.tp_parse.proofs.leaves.read_simple.Goals as goal
 
 pub returns-in_ok-push-in-Integer-clause-gives : goal.returns-in_ok-push-in-Integer-clause-gives

@@ -4,9 +4,9 @@ use Rattle.tp_parse.specs.Ops.{table_of}
 use Rattle.tp_parse.specs.Reading.{reading, infix_parts, args}
 use Rattle.tp_parse.specs.Steps.{trees_of, top_of}
 use Rattle.tp_parse.specs.Words.{ahead}
-use Rattle.tp_parse.proofs.WordLemmas.{ahead-after, ahead-length, some-first}
-use Rattle.tp_parse.proofs.ReadLemmas.{going-after, going-step, going-same, going-items, named-has}
-use Rattle.tp_parse.proofs.LoopLemmas.{Fails-then, Fails-same, reading-zero, reading-step, read-then, read-some, primary-none, primary-at, primary-named, primary-simple, args-start, args-more, args-last, args-fails, args-end, arg-then, arg-fails, elements-start, elements-more, elements-last, elements-enough, elements-fails, elements-end, element-then, element-fails, parts-start, parts-more, parts-none, parts-fails, parts-end, part-none, part-some, prefixed-is, operand-taken, operand-refused, compound-read, row-enough, operand-read, part-read, part-two, infix-label, braced-read, named-kind}
+use Rattle.tp_parse.proofs.ReadsTerms.Words.{ahead-after, ahead-length, some-first}
+use Rattle.tp_parse.proofs.ReadsTerms.Exits.{going-after, going-step, going-same, going-items, named-has}
+use Rattle.tp_parse.proofs.ReadsTerms.Loops.{Fails-then, Fails-same, reading-zero, reading-step, read-then, read-some, primary-none, primary-at, primary-named, primary-simple, args-start, args-more, args-last, args-fails, args-end, arg-then, arg-fails, elements-start, elements-more, elements-last, elements-enough, elements-fails, elements-end, element-then, element-fails, parts-start, parts-more, parts-none, parts-fails, parts-end, part-none, part-some, prefixed-is, operand-taken, operand-refused, compound-read, row-enough, operand-read, part-read, part-two, infix-label, braced-read, named-kind}
 use Rattle.tp_parse.proofs.reader.+reader.Goals as goal
 
 pub read-returns-then-levels-eq0-clause-gives : goal.read-returns-then-levels-eq0-clause-gives

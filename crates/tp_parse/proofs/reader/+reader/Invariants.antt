@@ -4,7 +4,7 @@ use Rattle.tp_parse.specs.Ops.{table_of}
 use Rattle.tp_parse.specs.Reading.{args, elements, infix_parts, reading}
 use Rattle.tp_parse.specs.Steps.{top_of, trees_of, under}
 use Rattle.tp_parse.specs.Words.{ahead}
-use Rattle.tp_parse.proofs.LoopLemmas.{ArgsSoFar, ElementsSoFar, PartsSoFar}
+use Rattle.tp_parse.proofs.ReadsTerms.Loops.{ArgsSoFar, ElementsSoFar, PartsSoFar}
 use Rattle.tp_parse.proofs.reader.+reader.Given as goal
 
 abbrev pub decreases-follow_element : goal.decreases-follow_element

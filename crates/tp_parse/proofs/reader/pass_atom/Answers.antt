@@ -3,8 +3,8 @@ use Rattle.tp_parse.specs.Tree.{Atom}
 use Rattle.tp_parse.specs.Ops.{table_of}
 use Rattle.tp_parse.specs.Steps.{trees_of, label_name}
 use Rattle.tp_parse.specs.Words.{ahead}
-use Rattle.tp_parse.proofs.WordLemmas.{ahead-after}
-use Rattle.tp_parse.proofs.ReadLemmas.{going-after, going-step, read-step}
+use Rattle.tp_parse.proofs.ReadsTerms.Words.{ahead-after}
+use Rattle.tp_parse.proofs.ReadsTerms.Exits.{going-after, going-step, read-step}
 use Rattle.tp_parse.proofs.reader.pass_atom.Goals as goal
 
 pub returns-clause-gives : goal.returns-clause-gives

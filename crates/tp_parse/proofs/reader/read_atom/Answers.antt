@@ -2,7 +2,7 @@ use Rattle.std.proofs.Common.{refl}
 use Rattle.tp_parse.specs.Ops.{table_of}
 use Rattle.tp_parse.specs.Steps.{trees_of}
 use Rattle.tp_parse.specs.Words.{ahead}
-use Rattle.tp_parse.proofs.ReadLemmas.{going-step, read-step, named-has}
+use Rattle.tp_parse.proofs.ReadsTerms.Exits.{going-step, read-step, named-has}
 use Rattle.tp_parse.proofs.reader.read_atom.Goals as goal
 
 pub returns-clause-gives : goal.returns-clause-gives

@@ -5,8 +5,8 @@ use Rattle.tp_parse.specs.Ahead.{first_value, after_first}
 use Rattle.tp_parse.specs.Ops.{table_of}
 use Rattle.tp_parse.specs.Steps.{trees_of}
 use Rattle.tp_parse.specs.Words.{ahead}
-use Rattle.tp_parse.proofs.WordLemmas.{ahead-after}
-use Rattle.tp_parse.proofs.ReadLemmas.{going-after, going-step, read-step, ahead-first}
+use Rattle.tp_parse.proofs.ReadsTerms.Words.{ahead-after}
+use Rattle.tp_parse.proofs.ReadsTerms.Exits.{going-after, going-step, read-step, ahead-first}
 use Rattle.tp_parse.proofs.reader.read_negative.Goals as goal
 
 pub returns-clause-gives : goal.returns-clause-gives

@@ -1,7 +1,7 @@
 use Rattle.std.proofs.lemmas.Result.{err_from_is_err_and}
 use Rattle.tp_parse.specs.Ops.{table_of}
 use Rattle.tp_parse.specs.Words.{ahead}
-use Rattle.tp_parse.proofs.WholeLemmas.{whole-fails, whole-then}
+use Rattle.tp_parse.proofs.ReadsTerms.Whole.{whole-fails, whole-then}
 use Rattle.tp_parse.proofs.whole.read_all.Goals as goal
 
 pub returns-in_err-read-clause-whole : goal.returns-in_err-read-clause-whole

@@ -1,8 +1,8 @@
 use Rattle.std.proofs.Common.{ap, ◌∙◌, length}
 use Rattle.tp_parse.specs.Steps.{trees_of}
 use Rattle.tp_parse.specs.Words.{ahead}
-use Rattle.tp_parse.proofs.NewNamesLemmas.{names-term}
-use Rattle.tp_parse.proofs.WholeLemmas.{is-term}
+use Rattle.tp_parse.proofs.Numbered.NewNames.{names-term}
+use Rattle.tp_parse.proofs.ReadsTerms.Whole.{is-term}
 use Rattle.tp_parse.proofs.whole.read_words.Goals as goal
 
 pub returns-clause-read : goal.returns-clause-read

@@ -1,7 +1,7 @@
 use Rattle.std.proofs.Common.{length, inl, inr, refl, arith, ap, sym, ◌∙◌}
 use Rattle.tp_parse.specs.Ops.{table_of}
 use Rattle.tp_parse.specs.Words.{reach_of}
-use Rattle.tp_parse.proofs.WordLemmas.{words-more, known-more, token-at, words-start, known-none}
+use Rattle.tp_parse.proofs.ReadsTerms.Words.{words-more, known-more, token-at, words-start, known-none}
 use Rattle.tp_parse.proofs.words.take_words.Goals as goal
 
 pub returns-then-stops_at-clause-known : goal.returns-then-stops_at-clause-known

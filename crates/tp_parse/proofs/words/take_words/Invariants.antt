@@ -4,7 +4,7 @@ use Rattle.tp_lex.specs.Tokens.{tokens_from}
 use Rattle.tp_parse.specs.Ops.{table_of}
 use Rattle.tp_parse.specs.Texts.{HasToken}
 use Rattle.tp_parse.specs.Words.{AreKnown, ahead, reach_of}
-use Rattle.tp_parse.proofs.WordLemmas.{before}
+use Rattle.tp_parse.proofs.ReadsTerms.Words.{before}
 use Rattle.tp_parse.proofs.words.take_words.Given as goal
 
 -- the words so far, and then the tokens that are left, are the tokens of all

@@ -81,10 +81,6 @@ pub ahead-opens : (text : List ℕ) (ws : List Word) → opens_directly (ahead t
 ahead-opens text [] = refl
 ahead-opens text (w ∷ ws) = refl
 
-pub ahead-integer : (text : List ℕ) (ws : List Word) → is_integer_directly (ahead text ws) ≡ integer_by (first_word ws)
-ahead-integer text [] = refl
-ahead-integer text (w ∷ ws) = refl
-
 pub ahead-length : (text : List ℕ) (ws : List Word) → length (ahead text ws) ≡ length ws
 ahead-length text [] = refl
 ahead-length text (w ∷ ws) = ap suc (ahead-length text ws)
@@ -100,14 +96,6 @@ first-known ops text (v ∷ ws) w h e = let same : v ≡ w = cc in subst (IsKnow
 pub first-split : (ws : List Word) (w : Word) → first_word ws ≡ Some w → ws ≡ w ∷ after_word ws
 first-split [] w e = cc
 first-split (v ∷ ws) w e = let same : v ≡ w = cc in ap (λ x. x ∷ ws) same
-
-pub after-shorter : (ws : List Word) → length (after_word ws) ≤ length ws
-after-shorter [] = omega arith
-after-shorter (w ∷ ws) = omega arith
-
-pub split-shorter : (ws : List Word) (w : Word) → first_word ws ≡ Some w → length (after_word ws) < length ws
-split-shorter [] w e = cc
-split-shorter (v ∷ ws) w e = omega arith
 
 -- the infix operator that stands there
 infix-by : (ops : Table) (text : List ℕ) (w : Word) (k : TokenKind) → w.as_infix ≡ infix_by ops k (token_name text w.token) → named_infix ops (infix_name_by k (token_name text w.token)) ≡ option_map (λ (r : Label × Op). (label_name text r.0, r.1)) (option_map (λ (o : Op). (label_by k w.token, o)) w.as_infix)

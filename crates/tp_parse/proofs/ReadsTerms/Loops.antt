@@ -25,8 +25,8 @@ use Rattle.tp_parse.specs.Reading.{Read, Term, Inner, ◌>>=◌, primary, primar
 use Rattle.tp_parse.specs.Words.{lexed_of, ahead, AreKnown, IsKnown, first_word, after_word, kind_of, atom_before, prefix_by, infix_by}
 use Rattle.tp_parse.specs.Steps.{act, trees_of, label_name, top_of, under, onto, count, list_of, linked, infix_word, taken_of, operator_of, operator_by, is_named, IsLabel, label_by, labelled}
 use Rattle.tp_parse.specs.Gives.{Fails, IsRead, GivesTerm, IsRow, IsArg, IsLastArg, GivesArg, IsElement, IsLastElement, GivesElement, IsList, IsNoPart, IsPart, FollowsArg, simple, operand, compound}
-use Rattle.tp_parse.proofs.WordLemmas.{ahead-after, ahead-kind, ahead-infix, ahead-atom}
-use Rattle.tp_parse.proofs.StepLemmas.{trees-more, joined, onto-joined, count-joined, act-onto, linked-list, length-onto}
+use Rattle.tp_parse.proofs.ReadsTerms.Words.{ahead-after, ahead-kind, ahead-infix, ahead-atom}
+use Rattle.tp_parse.proofs.ReadsTerms.Steps.{trees-more, joined, onto-joined, count-joined, act-onto, linked-list, length-onto}
 
 -- ---- stops
 
@@ -295,9 +295,6 @@ module _ (ops : Table) (inner : Inner) (p : ℕ) (whole : Read Term) (n m q : �
 pub parts-end : (ops : Table) (inner : Inner) (p : ℕ) (whole : Read Term) (n q : ℕ) (start made : List Tree) (ts : List Lexed) → n ≡ 0 → PartsSoFar ops inner p whole n q start made ts → IsRead start made ts q whole
 unfolding infix_parts
 parts-end ops inner p whole n q start made ts e s = record { tree = s.tree; read = s.same ∙ ap (λ k. infix_parts ops inner k p s.tree q ts) e; made = s.made_is }
-
-pub parts-some : (ops : Table) (inner : Inner) (p : ℕ) (whole : Read Term) (n q : ℕ) (start made : List Tree) (ts : List Lexed) → PartsSoFar ops inner p whole n q start made ts → 0 < length made
-parts-some ops inner p whole n q start made ts s = omega (arith, ap length s.made_is)
 
 -- one infix part, by the operator that is taken
 module _ (ops : Table) (inner : Inner) (text : List ℕ) (more : Tree → ℕ → List Lexed → Read Term) (p q : ℕ) (t : Tree) (ws : List Word) (known : AreKnown ops text ws) where
