@@ -1,4 +1,5 @@
--- How far reading has come: the words that are left and the steps so far, in a text under a table of operators.
+-- How far reading has come: the words that are left and the steps so far, in a text under a table
+-- of operators.
 use Rattle.std.specs.Prelude.{ℕ, suc, List, length, Option, Result}
 use Rattle.tp_terms.specs.Term.{Name}
 use Rattle.tp_lex.specs.Next.{token_name}
@@ -39,14 +40,19 @@ IsUnderway source at = IsGoing (ops_of source) source.text.now at.cursor at.step
 
 -- a term was read by this reading, or it stops there
 abbrev pub ReadsTerm : Source → Progress → Progress → Result ℕ Stop → Read Term → Type 0
-ReadsTerm source old new result r = GivesTerm (made_in source old) (made_in source new) (ahead_in source new) result r
+ReadsTerm source old new result r =
+    GivesTerm (made_in source old) (made_in source new) (ahead_in source new) result r
 
 -- the same of arguments, so many, and of a list
-abbrev pub ReadsRow : Source → Progress → Progress → Result ℕ Stop → Read (Trees × List Lexed) → Type 0
-ReadsRow source old new result r = GivesRow (made_in source old) (made_in source new) (ahead_in source new) result r
+abbrev pub ReadsRow : Source → Progress → Progress → Result ℕ Stop → Read (Trees × List Lexed) →
+    Type 0
+ReadsRow source old new result r =
+    GivesRow (made_in source old) (made_in source new) (ahead_in source new) result r
 
-abbrev pub ReadsList : {A : Type 0} → Source → Progress → Progress → Result A Stop → Read (Tree × List Lexed) → Type 0
-ReadsList source old new result r = GivesList (made_in source old) (made_in source new) (ahead_in source new) result r
+abbrev pub ReadsList : {A : Type 0} → Source → Progress → Progress → Result A Stop →
+    Read (Tree × List Lexed) → Type 0
+ReadsList source old new result r =
+    GivesList (made_in source old) (made_in source new) (ahead_in source new) result r
 
 -- the reading of a term within so many levels
 abbrev pub inner_of : Source → ℕ → Inner
@@ -62,25 +68,32 @@ name_in source w = token_name source.text.now w.token
 -- an argument was read, where so many more may come
 abbrev pub ReadsArgument : Source → Progress → Progress → Inner → ℕ → Result Follows Stop → Type 0
 ReadsArgument source old new inner rest result =
-    GivesArg inner rest (made_in source old) (made_in source new) (ahead_in source new) result (args inner (suc rest) (ahead_in source old))
+    GivesArg inner rest (made_in source old) (made_in source new)
+    (ahead_in source new) result (args inner (suc rest) (ahead_in source old))
 
 -- an element was read, and what follows it, where so many tokens more may come
 abbrev pub ReadsElement : Source → Progress → Progress → Inner → ℕ → Result Follows Stop → Type 0
 ReadsElement source old new inner n result =
-    GivesElement inner n (made_in source old) (made_in source new) (ahead_in source new) result (elements inner (suc n) (ahead_in source old))
+    GivesElement inner n (made_in source old) (made_in source new)
+    (ahead_in source new) result (elements inner (suc n) (ahead_in source old))
 
 -- what follows the element that was made last was read
-abbrev pub ReadsBehindElement : Source → Progress → Progress → Inner → ℕ → Result Follows Stop → Type 0
+abbrev pub ReadsBehindElement : Source → Progress → Progress → Inner → ℕ → Result Follows Stop →
+    Type 0
 ReadsBehindElement source old new inner n result =
-    GivesElement inner n (under (made_in source old)) (made_in source new) (ahead_in source new) result
-    (after_element inner (elements inner n) (top_of (made_in source old)) (ahead_in source old) (first_kind (ahead_in source old)))
+    GivesElement inner n (under (made_in source old)) (made_in source new)
+    (ahead_in source new) result
+    (after_element inner (elements inner n) (top_of (made_in source old)) (ahead_in source old)
+    (first_kind (ahead_in source old)))
 
 -- an infix part was read behind the tree of this priority that was made last, if one is there
-abbrev pub ReadsPart : Source → Progress → Progress → Inner → (Tree → ℕ → List Lexed → Read Term) → ℕ → ℕ → Result (Option ℕ) Stop → Type 0
+abbrev pub ReadsPart : Source → Progress → Progress → Inner → (Tree → ℕ → List Lexed → Read Term) →
+    ℕ → ℕ → Result (Option ℕ) Stop → Type 0
 ReadsPart source old new inner more bound priority result =
     let made = made_in source old in
     let ts = ahead_in source old in
-    GivesPart more (top_of made) priority (under made) made (made_in source new) ts (ahead_in source new) result
+    GivesPart more (top_of made) priority (under made) made (made_in source new) ts
+    (ahead_in source new) result
     (infix_part inner more bound (top_of made) priority ts (infix_ahead (ops_of source) ts))
 
 -- all infix parts were read behind the tree of this priority that was made last

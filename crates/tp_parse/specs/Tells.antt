@@ -28,7 +28,8 @@ pub record Tells (names : List Name) (t : ReadTerm) (f : Found) : Type 0 where
   pub to : t.to ≡ f.to
 
 -- what `read_clause` answers, where memory wasn't refused
-abbrev pub TellsClause : List Name → Result (Option ReadTerm) ReadFault → Result (Option Found) Refusal → Type 0
+abbrev pub TellsClause : List Name → Result (Option ReadTerm) ReadFault →
+    Result (Option Found) Refusal → Type 0
 TellsClause names (Ok None) r = r ≡ Ok None
 TellsClause names (Ok (Some t)) r = (f : Found) × (r ≡ Ok (Some f)) × Tells names t f
 TellsClause names (Err (Refused byte cause)) r = r ≡ Err (byte, cause)
@@ -45,7 +46,8 @@ TellsGoal names (Err NoMemory) r = Unit {0}
 -- every number is below the count, no name stands twice, and `_` has none
 pub record AreWithin (s : Numbers) : Type 0 where
   pub below : (i : ℕ) (n : Name × ℕ) → slice_get s.named i ≡ Some n → n.1 < s.vars
-  pub distinct : (i j : ℕ) (n m : Name × ℕ) → slice_get s.named i ≡ Some n → slice_get s.named j ≡ Some m → n.0 ≡ m.0 → i ≡ j
+  pub distinct : (i j : ℕ) (n m : Name × ℕ) → slice_get s.named i ≡ Some n →
+      slice_get s.named j ≡ Some m → n.0 ≡ m.0 → i ≡ j
   pub named : (i : ℕ) (n : Name × ℕ) → slice_get s.named i ≡ Some n → n.0 ≢ codes "_"
 
 -- and every variable that occurs is below it

@@ -13,9 +13,9 @@ pub fn one_reading()
     ensures follows { ReadingFollowsGrammar }
 {}
 
-/// Each term that is read has its variables numbered from 0 within their count, a name at one number
-/// and `_` at none, and a clause stands behind the byte from which it is read; the text may be read
-/// on from its end.
+/// Each term that is read has its variables numbered from 0 within their count, a name at one
+/// number and `_` at none, and a clause stands behind the byte from which it is read; the text may be
+/// read on from its end.
 pub fn what_is_read()
     ensures numbered { EachTermIsNumbered }
     ensures placed { EachClauseIsPlaced }

@@ -118,16 +118,12 @@ fn push_list(steps: &mut Vec<Step>, token: Token, source: &Source<'_>) -> Result
 }
 
 /// A first part of a term that has no terms in it.
-pub fn read_simple(
-    source: &Source<'_>,
-    at: &mut Progress<'_>,
-    word: Word,
-) -> Result<u16, Stop>
+pub fn read_simple(source: &Source<'_>, at: &mut Progress<'_>, word: Word) -> Result<u16, Stop>
     requires going { IsUnderway source.now at.old }
     requires first { first_word at.old.cursor ≡ Some word }
     ensures gives { ReadsTerm source.now at.old at.new result
         (simple (token_of source.now word) (ahead source.now.text.now (after_word at.old.cursor))
-            word.token.kind) }
+        word.token.kind) }
     ensures memory { result ≡ Err Stop.NoMemory → IsTrue (begins_leaf word.token.kind) }
     ensures number { result ≡ Err Stop.NoMemory → word.token.kind ≡ TokenKind.Integer →
         (token_of source.now word).value < 2 ^ 63 }

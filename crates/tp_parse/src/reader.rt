@@ -14,8 +14,8 @@ ghost use Rattle.tp_lex.specs.Tokens.{Lexed};
 
 use crate::cursor::Cursor;
 use crate::fault::ReadCause;
-use crate::progress::Progress;
 use crate::leaves::{is_minus, link, negative, read_simple};
+use crate::progress::Progress;
 use crate::steps::{Label, Step};
 use crate::stop::{Follows, Stop};
 use crate::table::{Op, OpType};
@@ -102,11 +102,7 @@ fn next_infix(cursor: &Cursor<'_>, bound: u16, priority: u16) -> Option<(Label, 
 }
 
 /// A name that is an atom.
-fn read_atom(
-    source: &Source<'_>,
-    at: &mut Progress<'_>,
-    word: Word,
-) -> Result<u16, Stop>
+fn read_atom(source: &Source<'_>, at: &mut Progress<'_>, word: Word) -> Result<u16, Stop>
     requires going { IsUnderway source.now at.old }
     requires known { IsWordOf source.now word }
     requires named { IsTrue (is_named word.token.kind) }
@@ -120,10 +116,7 @@ fn read_atom(
 }
 
 /// The negative of the integer that stands there.
-fn read_negative(
-    source: &Source<'_>,
-    at: &mut Progress<'_>,
-) -> Result<u16, Stop>
+fn read_negative(source: &Source<'_>, at: &mut Progress<'_>) -> Result<u16, Stop>
     requires going { IsUnderway source.now at.old }
     requires integer { IsTrue (integer_by (first_word at.old.cursor)) }
     ensures gives { let ts = ahead_in source.now at.old in ReadsTerm source.now at.old at.new result
@@ -141,17 +134,16 @@ fn read_negative(
 }
 
 /// A name of the grammar that is an atom, made of the token that stands there.
-fn pass_atom(
-    source: &Source<'_>,
-    at: &mut Progress<'_>,
-    label: Label,
-) -> Result<u16, Stop>
+fn pass_atom(source: &Source<'_>, at: &mut Progress<'_>, label: Label) -> Result<u16, Stop>
     requires going { IsUnderway source.now at.old }
     requires label { IsLabel source.now.text.now label }
     requires some { 0 < length at.old.cursor }
     ensures gives { ReadsTerm source.now at.old at.new result
-        (Ok (Atom (label_name source.now.text.now label), 0,
-            after_first (ahead_in source.now at.old))) }
+        (Ok (
+          Atom (label_name source.now.text.now label),
+          0,
+          after_first (ahead_in source.now at.old),
+        )) }
     ensures going { IsUnderway source.now at.new }
     ensures shorter { OnOk result (length at.new.cursor < length at.old.cursor) }
 {
@@ -162,8 +154,8 @@ fn pass_atom(
 
 /// What follows an argument, where so many more may come.
 fn follow_argument(cursor: &mut Cursor<'_>, rest: u8) -> Result<Follows, Stop>
-    ensures follows {
-        (text : List ℕ) (more : List Lexed → Read (Trees × List Lexed)) (tree : Tree) →
+    ensures follows { (text : List ℕ)
+        (more : List Lexed → Read (Trees × List Lexed)) (tree : Tree) →
         let ts = ahead text cursor.old in
         FollowsArg more rest tree (ahead text cursor.new) result
         (after_arg more rest tree ts (first_kind ts)) }
@@ -232,7 +224,7 @@ fn read_primary(
     requires going { IsUnderway source.now at.old }
     ensures gives { ReadsTerm source.now at.old at.new result
         (primary (ops_of source.now) (inner_of source.now levels) bound
-            (ahead_in source.now at.old)) }
+        (ahead_in source.now at.old)) }
     ensures going { IsUnderway source.now at.new }
     ensures memory { result ≡ Err Stop.NoMemory → 0 < length at.old.cursor }
     ensures shorter { OnOk result (length at.new.cursor < length at.old.cursor) }
@@ -264,11 +256,7 @@ fn read_primary(
 /// A term in parentheses, from behind the first one.
 #[cycle(reader)]
 #[tactic(auto, unfolding(crate::specs::Reading::bracketed))]
-fn read_bracketed(
-    source: &Source<'_>,
-    at: &mut Progress<'_>,
-    levels: u16,
-) -> Result<u16, Stop>
+fn read_bracketed(source: &Source<'_>, at: &mut Progress<'_>, levels: u16) -> Result<u16, Stop>
     requires going { IsUnderway source.now at.old }
     ensures gives { ReadsTerm source.now at.old at.new result
         (bracketed (inner_of source.now levels) (ahead_in source.now at.old)) }
@@ -283,11 +271,7 @@ fn read_bracketed(
 /// A term in braces, from behind the first one.
 #[cycle(reader)]
 #[tactic(auto, unfolding(crate::specs::Reading::braced))]
-fn read_braced(
-    source: &Source<'_>,
-    at: &mut Progress<'_>,
-    levels: u16,
-) -> Result<u16, Stop>
+fn read_braced(source: &Source<'_>, at: &mut Progress<'_>, levels: u16) -> Result<u16, Stop>
     requires going { IsUnderway source.now at.old }
     ensures gives { ReadsTerm source.now at.old at.new result
         (braced (inner_of source.now levels) (ahead_in source.now at.old)) }
@@ -312,8 +296,8 @@ fn read_argument(
     rest: u8,
 ) -> Result<Follows, Stop>
     requires going { IsUnderway source.now at.old }
-    ensures gives {
-        ReadsArgument source.now at.old at.new (inner_of source.now levels) rest result }
+    ensures gives { let inner = inner_of source.now levels in
+        ReadsArgument source.now at.old at.new inner rest result }
     ensures going { IsUnderway source.now at.new }
     ensures shorter { OnOk result (length at.new.cursor < length at.old.cursor) }
 {
@@ -323,11 +307,7 @@ fn read_argument(
 
 /// Arguments, from behind the first parenthesis, and how many there are.
 #[cycle(reader)]
-fn read_args(
-    source: &Source<'_>,
-    at: &mut Progress<'_>,
-    levels: u16,
-) -> Result<u8, Stop>
+fn read_args(source: &Source<'_>, at: &mut Progress<'_>, levels: u16) -> Result<u8, Stop>
     requires going { IsUnderway source.now at.old }
     ensures gives { ReadsRow source.now at.old at.new result
         (args (inner_of source.now levels) 255 (ahead_in source.now at.old)) }
@@ -345,11 +325,7 @@ fn read_args(
 
 /// The tail of a list, and the bracket that closes it.
 #[cycle(reader)]
-fn read_tail(
-    source: &Source<'_>,
-    at: &mut Progress<'_>,
-    levels: u16,
-) -> Result<(), Stop>
+fn read_tail(source: &Source<'_>, at: &mut Progress<'_>, levels: u16) -> Result<(), Stop>
     requires going { IsUnderway source.now at.old }
     ensures gives { ReadsList source.now at.old at.new result
         (tail (inner_of source.now levels) (ahead_in source.now at.old)) }
@@ -363,11 +339,7 @@ fn read_tail(
 
 /// What follows an element.
 #[cycle(reader)]
-fn follow_element(
-    source: &Source<'_>,
-    at: &mut Progress<'_>,
-    levels: u16,
-) -> Result<Follows, Stop>
+fn follow_element(source: &Source<'_>, at: &mut Progress<'_>, levels: u16) -> Result<Follows, Stop>
     requires going { IsUnderway source.now at.old }
     requires some { 0 < length (made_in source.now at.old) }
     ensures gives { (n : ℕ) →
@@ -400,11 +372,7 @@ fn follow_element(
 
 /// An element of a list, and what follows it.
 #[cycle(reader)]
-fn read_element(
-    source: &Source<'_>,
-    at: &mut Progress<'_>,
-    levels: u16,
-) -> Result<Follows, Stop>
+fn read_element(source: &Source<'_>, at: &mut Progress<'_>, levels: u16) -> Result<Follows, Stop>
     requires going { IsUnderway source.now at.old }
     ensures gives { (n : ℕ) →
         ReadsElement source.now at.old at.new (inner_of source.now levels) n result }
@@ -417,11 +385,7 @@ fn read_element(
 
 /// Elements of a list, from the first one on.
 #[cycle(reader)]
-fn read_elements(
-    source: &Source<'_>,
-    at: &mut Progress<'_>,
-    levels: u16,
-) -> Result<(), Stop>
+fn read_elements(source: &Source<'_>, at: &mut Progress<'_>, levels: u16) -> Result<(), Stop>
     requires going { IsUnderway source.now at.old }
     ensures gives { let ts = ahead_in source.now at.old in ReadsList source.now at.old at.new result
         (elements (inner_of source.now levels) (length ts) ts) }
@@ -444,11 +408,7 @@ fn read_elements(
 /// A list, from behind the first bracket.
 #[cycle(reader)]
 #[tactic(auto, unfolding(crate::specs::Reading::listed))]
-fn read_listed(
-    source: &Source<'_>,
-    at: &mut Progress<'_>,
-    levels: u16,
-) -> Result<u16, Stop>
+fn read_listed(source: &Source<'_>, at: &mut Progress<'_>, levels: u16) -> Result<u16, Stop>
     requires going { IsUnderway source.now at.old }
     ensures gives { ReadsTerm source.now at.old at.new result
         (listed (inner_of source.now levels) (ahead_in source.now at.old)) }
@@ -476,12 +436,13 @@ fn read_operand(
     requires named { IsTrue (is_named word.token.kind) }
     ensures gives { ReadsTerm source.now at.old at.new result
         (operand (inner_of source.now levels) (name_in source.now word)
-            (ahead_in source.now at.old) op) }
+        (ahead_in source.now at.old) op) }
     ensures going { IsUnderway source.now at.new }
     ensures shorter { OnOk result (length at.new.cursor ≤ length at.old.cursor) }
 {
     read(source, at, right_bound(op), levels)?;
-    at.steps.push(Step::Compound(Label::Written(word.token), 1))?;
+    at.steps
+        .push(Step::Compound(Label::Written(word.token), 1))?;
     Ok(op.0)
 }
 
@@ -499,7 +460,7 @@ fn read_prefixed(
     requires named { IsTrue (is_named word.token.kind) }
     ensures gives { ReadsTerm source.now at.old at.new result
         (prefixed (ops_of source.now) (inner_of source.now levels) bound (name_in source.now word)
-            (ahead_in source.now at.old)) }
+        (ahead_in source.now at.old)) }
     ensures memory { result ≡ Err Stop.NoMemory →
         IfSome (operator_of word at.old.cursor) (λ op. op.0 ≤ bound) }
     ensures going { IsUnderway source.now at.new }
@@ -527,13 +488,14 @@ fn read_compound(
     requires named { IsTrue (is_named word.token.kind) }
     ensures gives { ReadsTerm source.now at.old at.new result
         (compound (inner_of source.now levels) (name_in source.now word)
-            (ahead_in source.now at.old)) }
+        (ahead_in source.now at.old)) }
     ensures going { IsUnderway source.now at.new }
     ensures shorter { OnOk result (length at.new.cursor ≤ length at.old.cursor) }
 {
     at.cursor.pass();
     let count = read_args(source, at, levels)?;
-    at.steps.push(Step::Compound(Label::Written(word.token), count))?;
+    at.steps
+        .push(Step::Compound(Label::Written(word.token), count))?;
     Ok(0)
 }
 
@@ -552,7 +514,7 @@ fn read_named(
     requires named { IsTrue (is_named word.token.kind) }
     ensures gives { ReadsTerm source.now at.old at.new result
         (named (ops_of source.now) (inner_of source.now levels) bound (token_of source.now word)
-            (ahead_in source.now at.old)) }
+        (ahead_in source.now at.old)) }
     ensures going { IsUnderway source.now at.new }
     ensures shorter { OnOk result (length at.new.cursor ≤ length at.old.cursor) }
 {
@@ -601,8 +563,8 @@ fn read_infix_parts(
 ) -> Result<u16, Stop>
     requires going { IsUnderway source.now at.old }
     requires some { 0 < length (made_in source.now at.old) }
-    ensures gives {
-        ReadsParts source.now at.old at.new (inner_of source.now levels) bound priority result }
+    ensures gives { let inner = inner_of source.now levels in
+        ReadsParts source.now at.old at.new inner bound priority result }
     ensures going { IsUnderway source.now at.new }
     ensures shorter { OnOk result (length at.new.cursor ≤ length at.old.cursor) }
 {

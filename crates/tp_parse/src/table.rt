@@ -111,7 +111,9 @@ impl Model for Ops {
     ghost Value = { Entries };
 
     ghost view = { λ o. record {
-        prefixes = entries_of o.prefixes.entries; infixes = entries_of o.infixes.entries } };
+      prefixes = entries_of o.prefixes.entries;
+      infixes = entries_of o.infixes.entries;
+    } };
 }
 
 impl Ops {

@@ -1,5 +1,5 @@
-//! Each public function once, with values from outside. What is read is shown by the cases of tests/cases, where the
-//! built program reads and writes.
+//! Each public function once, with values from outside. What is read is shown by the cases of
+//! tests/cases, where the built program reads and writes.
 
 use crate::laws::{one_reading, what_is_read};
 use crate::{OpFault, OpType, Ops, ReadCause, ReadFault, ReadTerm, read_clause, read_goal};

@@ -139,11 +139,7 @@ fn refused_token(fault: LexFault) -> ReadFault
 }
 
 /// The next word from a byte on, the token before it ending at a byte; none where no token remains.
-fn next_word(
-    source: &Source<'_>,
-    at: usize,
-    end: Option<usize>,
-) -> Result<Option<Word>, ReadFault>
+fn next_word(source: &Source<'_>, at: usize, end: Option<usize>) -> Result<Option<Word>, ReadFault>
     requires { IsCharBoundary source.now.text.now at }
     ensures tokens { (reach : Reach) → let text = source.now.text.now in
         TellsNext reach text (tokens_from reach text) result (tokens_from reach text at end) }

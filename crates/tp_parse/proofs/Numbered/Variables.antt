@@ -1,5 +1,5 @@
 -- Variables by their texts.
-use Rattle.std.proofs.Common.{◌≡◌, ℕ, ◌+◌, Bool, true, false, List, [], ◌∷◌, ◌++◌, cond, Some, None, codes, string_bytes, refl, sym, ap, ◌∙◌, if◌then◌else◌}
+use Rattle.std.proofs.Common.{◌≡◌, ℕ, Bool, true, false, List, [], ◌∷◌, ◌++◌, cond, Some, None, codes, string_bytes, refl, sym, ap, ◌∙◌, if◌then◌else◌}
 use Rattle.std.proofs.lemmas.Str.{IsUtf8-string_bytes, IsUtf8-from_is_utf8}
 use Rattle.std.specs.Map.{lookup}
 use Rattle.std.specs.Str.{IsUtf8, is_utf8, chars, bytes_eq}
@@ -7,9 +7,9 @@ use Rattle.std.specs.String.{string_eq}
 use Rattle.std.specs.declared.alloc.Global.{Global}
 use Rattle.std.specs.declared.string.String.{String}
 use Rattle.indexmap.specs.IndexMap.{insert_entry}
-use Rattle.tp_terms.specs.Term.{Name, names_eq}
+use Rattle.tp_terms.specs.Term.{names_eq}
 use Rattle.tp_terms.proofs.TextLemmas.{names_eq-chars}
-use Rattle.tp_parse.specs.Numbers.{Numbers, number_in, number_of, known_number}
+use Rattle.tp_parse.specs.Numbers.{number_in}
 use Rattle.tp_parse.specs.Variables.{numbers_of}
 
 abbrev Texts : Type 0

@@ -1,6 +1,6 @@
 -- The reader's functions: what each exit gives.
-use Rattle.std.proofs.Common.{◌≡◌, ◌≢◌, ℕ, suc, ◌<◌, ◌≤◌, ◌^◌, IsTrue, Bool, List, [], ◌∷◌, ◌++◌, length, Some, Ok, Err, pos, codes, refl, sym, ap, subst, ◌∙◌, arith, if◌then◌else◌}
-use Rattle.std.proofs.lemmas.Bool.{lt-ltb, lt-leb}
+use Rattle.std.proofs.Common.{◌≡◌, ℕ, ◌<◌, ◌^◌, IsTrue, Bool, List, [], ◌∷◌, ◌++◌, length, Some, Ok, Err, pos, codes, refl, sym, ap, subst, ◌∙◌, arith, if◌then◌else◌}
+use Rattle.std.proofs.lemmas.Bool.{lt-ltb}
 use Rattle.std.specs.Str.{chars}
 use Rattle.tp_terms.specs.Term.{names_eq}
 use Rattle.tp_lex.specs.Form.{has_name}

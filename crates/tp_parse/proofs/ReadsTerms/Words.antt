@@ -1,5 +1,5 @@
 -- Words: they are tokens taken one by one, and what stands first in them stands first in the tokens.
-use Rattle.std.proofs.Common.{◌≡◌, ◌⊎◌, inl, inr, ℕ, suc, Bool, false, not, ◌&&◌, List, [], ◌∷◌, ◌++◌, length, Option, Some, None, Result, Ok, Err, codes, is_some, is_none, refl, sym, ap, subst, ◌∙◌, if◌then◌else◌, append_assoc, ◌<◌, ◌≤◌, arith}
+use Rattle.std.proofs.Common.{◌≡◌, ◌⊎◌, inl, inr, ℕ, suc, Bool, false, not, ◌&&◌, List, [], ◌∷◌, ◌++◌, length, Option, Some, None, Result, Ok, Err, codes, is_some, is_none, refl, sym, ap, subst, ◌∙◌, if◌then◌else◌, append_assoc, ◌<◌, arith}
 use Rattle.std.specs.Option.{option_map}
 use Rattle.std.proofs.lemmas.List.{map-append}
 use Rattle.tp_terms.specs.Term.{Name}
@@ -11,9 +11,9 @@ use Rattle.tp_lex.specs.declared.token.LexFault.{LexFault}
 use Rattle.tp_parse.specs.Table.{Op, Table}
 use Rattle.tp_parse.specs.declared.steps.Label.{Label}
 use Rattle.tp_parse.specs.declared.steps.Label.TheVariants.{Written, Comma}
-use Rattle.tp_parse.specs.Ahead.{named_infix, infix_name_by, with_op_of, is_atom_by, first_kind, after_first, opens_directly, is_integer_directly, infix_ahead, is_atom_before}
+use Rattle.tp_parse.specs.Ahead.{named_infix, infix_name_by, with_op_of, is_atom_by, first_kind, after_first, opens_directly, infix_ahead, is_atom_before}
 use Rattle.tp_parse.specs.Texts.{HasToken}
-use Rattle.tp_parse.specs.Words.{lexed_of, ahead, IsKnown, AreKnown, first_word, after_word, kind_of, opens_by, integer_by, atom_before, atom_by, infix_by, prefix_by}
+use Rattle.tp_parse.specs.Words.{lexed_of, ahead, IsKnown, AreKnown, first_word, after_word, kind_of, opens_by, atom_before, atom_by, infix_by, prefix_by}
 use Rattle.tp_parse.specs.Steps.{label_name, label_by, labelled, infix_word}
 use Rattle.tp_parse.specs.declared.words.Word.{Word}
 
