@@ -20,4 +20,4 @@ mod words;
 
 pub use fault::{ReadCause, ReadFault};
 pub use read::{ReadTerm, read_clause, read_goal};
-pub use table::{Op, OpFault, OpType, Ops};
+pub use table::{Op, OpFault, OpType, Ops, left_bound, right_bound};

@@ -7,7 +7,6 @@ ghost use Rattle.tp_parse.specs.Ahead.{after_first, first_kind, first_value, is_
 ghost use Rattle.tp_parse.specs.Progress.{IsUnderway, IsWordOf, ReadsArgument, ReadsBehindElement, ReadsElement, ReadsList, ReadsPart, ReadsParts, ReadsRow, ReadsTerm, ahead_in, inner_of, made_in, name_in, ops_of, token_of};
 ghost use Rattle.tp_parse.specs.Reading.{Read, Term, after_arg, args, braced, bracketed, elements, is_taken, listed, named, prefixed, primary, tail, too_deep};
 ghost use Rattle.tp_parse.specs.Steps.{IsLabel, ends_list, infix_word, is_named, label_name, operator_of, taken_of};
-ghost use Rattle.tp_parse.specs.Table.{left_bound, right_bound};
 ghost use Rattle.tp_parse.specs.Words.{after_word, ahead, first_word, integer_by, kind_of};
 ghost use Rattle.tp_parse.specs.Tree.{Atom, Integer, Tree, Trees, minus};
 ghost use Rattle.tp_lex.specs.Tokens.{Lexed};
@@ -18,7 +17,7 @@ use crate::leaves::{is_minus, link, negative, read_simple};
 use crate::progress::Progress;
 use crate::steps::{Label, Step};
 use crate::stop::{Follows, Stop};
-use crate::table::{Op, OpType};
+use crate::table::{Op, left_bound, right_bound};
 use crate::words::{Source, Word};
 use tp_lex::{TokenKind, integer_value};
 
@@ -30,27 +29,6 @@ const ARGUMENT: u16 = 999;
 
 /// The most arguments of a compound.
 const MOST_ARGUMENTS: u8 = 255;
-
-/// The largest priority of an operator's left operand.
-fn left_bound(op: Op) -> u16
-    ensures { result ≡ left_bound op }
-{
-    match op.1 {
-        OpType::Xfx | OpType::Xfy => op.0.saturating_sub(1),
-        OpType::Yfx => op.0,
-        OpType::Fy | OpType::Fx => 0,
-    }
-}
-
-/// The largest priority of an operator's right operand.
-fn right_bound(op: Op) -> u16
-    ensures { result ≡ right_bound op }
-{
-    match op.1 {
-        OpType::Xfx | OpType::Yfx | OpType::Fx => op.0.saturating_sub(1),
-        OpType::Xfy | OpType::Fy => op.0,
-    }
-}
 
 /// Whether an infix operator is taken behind a term of this priority.
 fn is_taken(op: Op, bound: u16, priority: u16) -> bool

@@ -2,7 +2,7 @@
 
 ghost use Rattle.std.specs.Prelude.{◌≡◌, ℕ, ◌≤◌, List, map, fold, drop, chars, codes, IsTrue, IfOk, OnErr, OnOk, if◌then◌else◌};
 ghost use Rattle.tp_terms.specs.Term.{Name};
-ghost use Rattle.tp_parse.specs.Table.{add_op, changed, empty_table, entry_of, is_kept_name, is_prefix, start_table, type_of, with_op};
+ghost use Rattle.tp_parse.specs.Table.{add_op, changed, empty_table, entry_of, is_kept_name, is_prefix, left_bound, right_bound, start_table, type_of, with_op};
 ghost use Rattle.tp_parse.specs.Ops.{TellsAdd, entries_of, found_in, table_of};
 ghost use Rattle.tp_parse.specs.Start.{with_operators};
 
@@ -52,6 +52,27 @@ impl From<NoMemory> for OpFault {
 
 /// An operator's priority, from 1 to 1200, and its type.
 pub type Op = (u16, OpType);
+
+/// The largest priority of an operator's left operand; a prefix operator has none.
+pub fn left_bound(op: Op) -> u16
+    ensures { result ≡ left_bound op }
+{
+    match op.1 {
+        OpType::Xfx | OpType::Xfy => op.0.saturating_sub(1),
+        OpType::Yfx => op.0,
+        OpType::Fy | OpType::Fx => 0,
+    }
+}
+
+/// The largest priority of an operator's right operand.
+pub fn right_bound(op: Op) -> u16
+    ensures { result ≡ right_bound op }
+{
+    match op.1 {
+        OpType::Xfx | OpType::Yfx | OpType::Fx => op.0.saturating_sub(1),
+        OpType::Xfy | OpType::Fy => op.0,
+    }
+}
 
 /// The operators at the start, in the order of their priorities.
 const START_OPERATORS: [(u16, OpType, &str); 40] = [

@@ -6,13 +6,13 @@ ghost use Rattle.tp_lex.specs.Form.{has_name};
 ghost use Rattle.tp_lex.specs.Next.{IsTokenOf, StandsBehind, token_name};
 ghost use Rattle.tp_lex.specs.Tokens.{Reach, stands_directly, stops_at, tokens_from};
 ghost use Rattle.tp_parse.specs.Progress.{IsWordOf, ops_of};
-ghost use Rattle.tp_parse.specs.Texts.{HasToken, refused_token};
+ghost use Rattle.tp_parse.specs.Texts.{HasToken};
 ghost use Rattle.tp_parse.specs.Words.{AreKnown, TellsNext, TellsWords, infix_by, prefix_by, reach_of};
 
-use crate::fault::{ReadCause, ReadFault};
+use crate::fault::ReadFault;
 use crate::table::{Op, Ops};
 use std::alloc::Global;
-use tp_lex::{LexFault, Token, TokenKind, next_token, token_text};
+use tp_lex::{Token, TokenKind, next_token, token_text};
 use tp_terms::NoMemory;
 
 /// A token, with what the table of operators holds of its name.
@@ -118,26 +118,6 @@ fn stands_directly(end: Option<usize>, from: usize) -> bool
     }
 }
 
-/// The refusal of a text that has no token there.
-fn refused_token(fault: LexFault) -> ReadFault
-    ensures { let r = refused_token fault in result ≡ ReadFault.Refused r.0 r.1 }
-{
-    match fault {
-        LexFault::BadToken(byte) => ReadFault::Refused {
-            byte,
-            cause: ReadCause::Token,
-        },
-        LexFault::NumberRange(byte) => ReadFault::Refused {
-            byte,
-            cause: ReadCause::Number,
-        },
-        LexFault::Unfinished(byte) => ReadFault::Refused {
-            byte,
-            cause: ReadCause::Unfinished,
-        },
-    }
-}
-
 /// The next word from a byte on, the token before it ending at a byte; none where no token remains.
 fn next_word(source: &Source<'_>, at: usize, end: Option<usize>) -> Result<Option<Word>, ReadFault>
     requires { IsCharBoundary source.now.text.now at }
@@ -156,7 +136,7 @@ fn next_word(source: &Source<'_>, at: usize, end: Option<usize>) -> Result<Optio
             Ok(Some(word))
         }
         Ok(None) => Ok(None),
-        Err(fault) => Err(refused_token(fault)),
+        Err(fault) => Err(ReadFault::from(fault)),
     }
 }
 
