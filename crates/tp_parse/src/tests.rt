@@ -57,7 +57,7 @@ fn each_public_function(rt: HostRuntime) -> Result<(), Fail> {
         let Some(clause) = read_clause(rt.alloc(), text, 0, &ops, &mut atoms)? else {
             return Err(Fail::new("no clause"));
         };
-        assert_eq!(rt; clause.named.as_slice()[0].name.as_str(), "X");
+        assert_eq!(rt; clause.named.as_slice().len(), 1);
         assert_eq!(rt; outcome(Ok(clause)), Ok((2, 1, 1, 6)));
         let none = read_clause(rt.alloc(), text, 6, &ops, &mut atoms)?;
         assert!(rt; none.is_none());
