@@ -15,8 +15,8 @@ use Rattle.tp_parse.specs.Steps.{act, run, trees_of, row, count, IsReady, AreRea
 use Rattle.tp_parse.specs.declared.steps.Step.{Step}
 use Rattle.tp_parse.specs.Making.{shown_row, AllBefore, upright, IsMade, IsBuilt, IsGathered}
 use Rattle.tp_parse.specs.declared.build.Making.{Making}
-use Rattle.tp_parse.proofs.StepLemmas.{joined, trees-more}
-use Rattle.tp_parse.proofs.LoopLemmas.{joined-assoc}
+use Rattle.tp_parse.proofs.ReadsTerms.Steps.{joined, trees-more}
+use Rattle.tp_parse.proofs.ReadsTerms.Loops.{joined-assoc}
 
 -- ---- cells that stand before a place
 

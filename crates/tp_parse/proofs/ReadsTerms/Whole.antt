@@ -24,7 +24,7 @@ use Rattle.tp_parse.specs.declared.fault.ReadCause.TheVariants as cause
 use Rattle.tp_parse.specs.declared.fault.ReadFault.{ReadFault}
 use Rattle.tp_parse.specs.declared.fault.ReadFault.TheVariants.{Refused, NoMemory as NoRoom}
 use Rattle.tp_parse.specs.declared.read.ReadTerm.{ReadTerm}
-use Rattle.tp_parse.proofs.LoopLemmas.{Fails-then, Fails-same}
+use Rattle.tp_parse.proofs.ReadsTerms.Loops.{Fails-then, Fails-same}
 
 -- a whole is a term and its end
 pub whole-step : (e : Extent) (ops : Table) (ts : List Lexed) → reading_of e ops ts ≡ (reading ops 1000 1200 ts >>= λ r. ends_of e r.0 r.2)

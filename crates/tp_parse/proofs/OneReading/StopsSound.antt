@@ -11,9 +11,9 @@ use Rattle.tp_parse.specs.Reading.{Read, Stop, Term, ◌>>=◌, closes_by, behin
 use Rattle.tp_parse.specs.Grammar.{is_name, IsOtherName, Reads}
 use Rattle.tp_parse.specs.Stopping.{begins_none, Stops, too_deep, ended_too_deep, in_primary, in_infix_parts, StopsFirst, ended, no_primary, too_large, in_parentheses, no_close, in_list, in_braces, no_close_curly, in_compound, operator_above_bound, in_operand, StopsElements, in_element, behind_element, in_more_elements, in_tail, behind_tail, StopsArguments, in_argument, behind_argument, too_many, in_more_arguments, StopsBehind, in_right_operand, in_later_part}
 use Rattle.tp_parse.specs.declared.fault.ReadCause.TheVariants as cause
-use Rattle.tp_parse.proofs.TokenLawLemmas.{bind_err, err-of, chosen, closes_false, opens_of, behind_err_of, taken_of}
-use Rattle.tp_parse.proofs.GrammarLemmas.{shorter-Reads}
-use Rattle.tp_parse.proofs.SoundLawLemmas.{sound, sound-Begins}
+use Rattle.tp_parse.proofs.OneReading.Tokens.{bind_err, err-of, chosen, closes_false, opens_of, behind_err_of, taken_of}
+use Rattle.tp_parse.proofs.OneReading.Complete.{shorter-Reads}
+use Rattle.tp_parse.proofs.OneReading.Sound.{sound, sound-Begins}
 
 -- ---- by the kind of the token behind
 

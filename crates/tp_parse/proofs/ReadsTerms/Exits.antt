@@ -1,6 +1,6 @@
 -- The reader's functions: what each exit gives.
-use Rattle.std.proofs.Common.{◌≡◌, ◌≢◌, ℕ, suc, ◌<◌, ◌≤◌, ◌^◌, IsTrue, Bool, List, [], ◌∷◌, ◌++◌, length, Some, Ok, Err, pos, codes, refl, sym, ap, subst, ◌∙◌, arith, if◌then◌else◌}
-use Rattle.std.proofs.lemmas.Bool.{lt-ltb, lt-leb}
+use Rattle.std.proofs.Common.{◌≡◌, ℕ, ◌<◌, ◌^◌, IsTrue, Bool, List, [], ◌∷◌, ◌++◌, length, Some, Ok, Err, pos, codes, refl, sym, ap, subst, ◌∙◌, arith, if◌then◌else◌}
+use Rattle.std.proofs.lemmas.Bool.{lt-ltb}
 use Rattle.std.specs.Str.{chars}
 use Rattle.tp_terms.specs.Term.{names_eq}
 use Rattle.tp_lex.specs.Form.{has_name}
@@ -18,8 +18,8 @@ use Rattle.tp_parse.specs.Reading.{Read, Term}
 use Rattle.tp_parse.specs.Words.{lexed_of, ahead, AreKnown, first_word, after_word}
 use Rattle.tp_parse.specs.Steps.{act, trees_of, AreReady, IsReady, is_named}
 use Rattle.tp_parse.specs.Gives.{IsGoing, IsRead, simple}
-use Rattle.tp_parse.proofs.WordLemmas.{known-after, first-split}
-use Rattle.tp_parse.proofs.StepLemmas.{trees-more, ready-more}
+use Rattle.tp_parse.proofs.ReadsTerms.Words.{known-after, first-split}
+use Rattle.tp_parse.proofs.ReadsTerms.Steps.{trees-more, ready-more}
 
 -- ---- what is going on
 
@@ -28,9 +28,6 @@ going-after ops text ws left steps e g = record { known = subst (AreKnown ops te
 
 pub going-step : (ops : Table) (text : List ℕ) (ws : List Word) (steps new : List Step) (s : Step) → new ≡ steps ++ s ∷ [] → IsReady text (length (trees_of text steps)) s → IsGoing ops text ws steps → IsGoing ops text ws new
 going-step ops text ws steps new s e k g = record { known = g.known; ready = ready-more text steps new s e g.ready k }
-
-pub going-ready : (ops : Table) (text : List ℕ) (ws : List Word) (steps new : List Step) → AreReady text [] new → IsGoing ops text ws steps → IsGoing ops text ws new
-going-ready ops text ws steps new r g = record { known = g.known; ready = r }
 
 -- ---- steps that end a reading
 
@@ -41,27 +38,6 @@ pub simple-integer : (t : Lexed) (ts left : List Lexed) (k : TokenKind) (v : ℕ
 simple-integer t ts left k v e f h l =
     ap (simple t ts) e ∙ ap (λ (b : Bool). if b then Ok (Integer (pos t.value), 0, ts) else Err (cause.Number, t ∷ ts)) (lt-ltb t.value (2 ^ 63) (omega (arith, f)))
     ∙ ap (λ n. Ok (Integer (pos n), 0, ts)) (sym f) ∙ ap (λ l. Ok (Integer (pos v), 0, l)) (sym l)
-
-pub simple-number : (t : Lexed) (ts left : List Lexed) (k : TokenKind) (v : ℕ) → k ≡ kind.Integer → v ≡ t.value → 2 ^ 63 ≤ v → left ≡ t ∷ ts → simple t ts k ≡ Err (cause.Number, left)
-simple-number t ts left k v e f h l =
-    ap (simple t ts) e ∙ ap (λ (b : Bool). if b then Ok (Integer (pos t.value), 0, ts) else Err (cause.Number, t ∷ ts)) (lt-leb (suc t.value) (2 ^ 63) (omega (arith, f)))
-    ∙ ap (λ l. Err (cause.Number, l)) (sym l)
-
-pub simple-other : (t : Lexed) (ts : List Lexed) (k : TokenKind) → k ≢ kind.Integer → k ≢ kind.Variable → k ≢ kind.Codes → simple t ts k ≡ Err (cause.Syntax, t ∷ ts)
-simple-other t ts kind.Integer a b c = absurd (a refl)
-simple-other t ts kind.Variable a b c = absurd (b refl)
-simple-other t ts kind.Codes a b c = absurd (c refl)
-simple-other t ts kind.Name a b c = refl
-simple-other t ts kind.Quoted a b c = refl
-simple-other t ts kind.Open a b c = refl
-simple-other t ts kind.Close a b c = refl
-simple-other t ts kind.OpenList a b c = refl
-simple-other t ts kind.CloseList a b c = refl
-simple-other t ts kind.OpenCurly a b c = refl
-simple-other t ts kind.CloseCurly a b c = refl
-simple-other t ts kind.Comma a b c = refl
-simple-other t ts kind.Bar a b c = refl
-simple-other t ts kind.End a b c = refl
 
 -- the tokens from a word on
 pub ahead-first : (text : List ℕ) (ws : List Word) (w : Word) → first_word ws ≡ Some w → ahead text ws ≡ lexed_of text w ∷ ahead text (after_word ws)

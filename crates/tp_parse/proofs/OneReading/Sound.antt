@@ -9,8 +9,8 @@ use Rattle.tp_parse.specs.Table.{Op, Table, right_bound}
 use Rattle.tp_parse.specs.Ahead.{first_kind, after_first, opens_directly, is_integer_directly, first_value, is_minus, infix_ahead, is_atom_before}
 use Rattle.tp_parse.specs.Reading.{Read, Term, ◌>>=◌, closes_by, behind, bracketed, braced, after_arg, args, tail, after_element, elements, listed, prefixed_by, prefixed, named, primary_by, primary, is_taken, infix_part as part_by, infix_parts, reading}
 use Rattle.tp_parse.specs.Grammar.{is_name, IsOtherName, Reads, whole, Begins, integer, variable, list_of_codes, parentheses, empty_brackets, empty_braces, list, braces, compound, negative, operator_as_atom, operator, atom, Elements, last_element, more_elements, element_and_tail, Arguments, last_argument, more_arguments, Goes, no_operator, above_bound, above_left_bound, infix_part}
-use Rattle.tp_parse.proofs.TokenLawLemmas.{bind_ok, ok-of, chosen, both_true, closes_same, opens_of, integer_directly_of, behind_ok_of, taken_of, not_taken_of}
-use Rattle.tp_parse.proofs.GrammarLemmas.{shorter-Reads}
+use Rattle.tp_parse.proofs.OneReading.Tokens.{bind_ok, ok-of, chosen, both_true, closes_same, opens_of, integer_directly_of, behind_ok_of, taken_of, not_taken_of}
+use Rattle.tp_parse.proofs.OneReading.Complete.{shorter-Reads}
 
 module _ (ops : Table) (m : ℕ) (inner : (p : ℕ) (ts : List Lexed) (r : Term) → reading ops m p ts ≡ Ok r → Reads ops m p ts r.0 r.1 r.2) where
   -- a term and the token that closes it

@@ -1,5 +1,5 @@
 -- Variables by their texts.
-use Rattle.std.proofs.Common.{◌≡◌, ℕ, ◌+◌, Bool, true, false, List, [], ◌∷◌, ◌++◌, cond, Some, None, codes, string_bytes, refl, sym, ap, ◌∙◌, if◌then◌else◌}
+use Rattle.std.proofs.Common.{◌≡◌, ℕ, Bool, true, false, List, [], ◌∷◌, ◌++◌, cond, Some, None, codes, string_bytes, refl, sym, ap, ◌∙◌, if◌then◌else◌}
 use Rattle.std.proofs.lemmas.Str.{IsUtf8-string_bytes, IsUtf8-from_is_utf8}
 use Rattle.std.specs.Map.{lookup}
 use Rattle.std.specs.Str.{IsUtf8, is_utf8, chars, bytes_eq}
@@ -7,9 +7,9 @@ use Rattle.std.specs.String.{string_eq}
 use Rattle.std.specs.declared.alloc.Global.{Global}
 use Rattle.std.specs.declared.string.String.{String}
 use Rattle.indexmap.specs.IndexMap.{insert_entry}
-use Rattle.tp_terms.specs.Term.{Name, names_eq}
+use Rattle.tp_terms.specs.Term.{names_eq}
 use Rattle.tp_terms.proofs.TextLemmas.{names_eq-chars}
-use Rattle.tp_parse.specs.Numbers.{Numbers, number_in, number_of, known_number}
+use Rattle.tp_parse.specs.Numbers.{number_in}
 use Rattle.tp_parse.specs.Variables.{numbers_of}
 
 abbrev Texts : Type 0
@@ -45,13 +45,3 @@ added-at (e ∷ es) key n h =
 pub added : (old new : Texts) (key : String Global) (bytes : List ℕ) (n : ℕ) → new ≡ insert_entry string_eq old key n → string_bytes key ≡ bytes → number_in (numbers_of old) (chars bytes) ≡ None → numbers_of new ≡ numbers_of old ++ (chars bytes, n) ∷ []
 added old new key bytes n e same h =
     ap numbers_of e ∙ added-at old key n (ap (λ b. number_in (numbers_of old) (chars b)) same ∙ h) ∙ ap (λ b. numbers_of old ++ (chars b, n) ∷ []) same
-
--- the number of a variable
-pub number-anonymous : (name : Name) (s : Numbers) → true ≡ names_eq name (codes "_") → number_of name s ≡ (s.vars, record { named = s.named; vars = s.vars + 1 })
-number-anonymous name s e = ap (λ (b : Bool). if b then (s.vars, record { named = s.named; vars = s.vars + 1 }) else known_number name s (number_in s.named name)) (sym e)
-
-pub number-known : (name : Name) (s : Numbers) (n : ℕ) → false ≡ names_eq name (codes "_") → Some n ≡ number_in s.named name → number_of name s ≡ (n, s)
-number-known name s n e f = ap (λ (b : Bool). if b then (s.vars, record { named = s.named; vars = s.vars + 1 }) else known_number name s (number_in s.named name)) (sym e) ∙ ap (known_number name s) (sym f)
-
-pub number-new : (name : Name) (s : Numbers) → false ≡ names_eq name (codes "_") → None ≡ number_in s.named name → number_of name s ≡ (s.vars, record { named = s.named ++ (name, s.vars) ∷ []; vars = s.vars + 1 })
-number-new name s e f = ap (λ (b : Bool). if b then (s.vars, record { named = s.named; vars = s.vars + 1 }) else known_number name s (number_in s.named name)) (sym e) ∙ ap (known_number name s) (sym f)

@@ -23,9 +23,6 @@ trees-more text steps new s e = ap (trees_of text) e ∙ run-push text [] steps 
 pub ready-more : (text : List ℕ) (steps new : List Step) (s : Step) → new ≡ steps ++ s ∷ [] → AreReady text [] steps → IsReady text (length (trees_of text steps)) s → AreReady text [] new
 ready-more text steps new s e h k = subst (AreReady text []) (sym e) (ready-push text [] steps s h k)
 
-pub ready-same : (text : List ℕ) (steps new : List Step) → new ≡ steps → AreReady text [] steps → AreReady text [] new
-ready-same text steps new e h = subst (AreReady text []) (sym e) h
-
 -- ---- links
 
 link-step : (text : List ℕ) (n : ℕ) (made : List Tree) → suc n < length made → linked (suc n) made ≡ linked n (act text (step.Compound label.ListCell 2) made)

@@ -11,8 +11,8 @@ use Rattle.tp_parse.specs.Grammar.{IsOtherName}
 use Rattle.tp_parse.specs.Stopping.{begins_none, Stops, too_deep, ended_too_deep, in_primary, in_infix_parts, StopsFirst, ended, no_primary, too_large, in_parentheses, no_close, in_list, in_braces, no_close_curly, in_compound, operator_above_bound, in_operand, StopsElements, in_element, behind_element, in_more_elements, in_tail, behind_tail, StopsArguments, in_argument, behind_argument, too_many, in_more_arguments, StopsBehind, in_right_operand, in_later_part}
 use Rattle.tp_parse.specs.declared.fault.ReadCause.{ReadCause}
 use Rattle.tp_parse.specs.declared.fault.ReadCause.TheVariants as cause
-use Rattle.tp_parse.proofs.TokenLawLemmas.{if_false, closes_other, behind_err, is_taken_true}
-use Rattle.tp_parse.proofs.GrammarLemmas.{complete, complete-Begins, shorter-Reads, reads_not_closing, first_step, operator_step, operator_above_step, compound_step, bracketed_step, braced_step, listed_step, args_step, args_behind, elements_step, elements_behind, tail_step, parts_taken}
+use Rattle.tp_parse.proofs.OneReading.Tokens.{if_false, closes_other, behind_err, is_taken_true}
+use Rattle.tp_parse.proofs.OneReading.Complete.{complete, complete-Begins, shorter-Reads, reads_not_closing, first_step, operator_step, operator_above_step, compound_step, bracketed_step, braced_step, listed_step, args_step, args_behind, elements_step, elements_behind, tail_step, parts_taken}
 
 -- ---- one step of the function at each stop
 

@@ -9,7 +9,7 @@ use Rattle.tp_parse.specs.Table.{Op, Table, right_bound}
 use Rattle.tp_parse.specs.Ahead.{first_kind, after_first, opens_directly, is_integer_directly, first_value, is_minus_by, is_minus, infix_ahead, is_atom_before}
 use Rattle.tp_parse.specs.Reading.{Inner, ◌>>=◌, closes_by, behind, bracketed, braced, after_arg, args, tail, after_element, elements, listed, prefixed_by, prefixed, named, primary_by, primary, is_taken, infix_part as part_by, infix_parts, reading}
 use Rattle.tp_parse.specs.Grammar.{is_name, IsOtherName, Reads, whole, Begins, integer, variable, list_of_codes, parentheses, empty_brackets, empty_braces, list, braces, compound, negative, operator_as_atom, operator, atom, Elements, last_element, more_elements, element_and_tail, Arguments, last_argument, more_arguments, Goes, no_operator, above_bound, above_left_bound, infix_part}
-use Rattle.tp_parse.proofs.TokenLawLemmas.{if_true, if_false, closes_other, opens, integer_directly, integer_opens_not, behind_ok, is_taken_true, is_taken_above, is_taken_left}
+use Rattle.tp_parse.proofs.OneReading.Tokens.{if_true, if_false, closes_other, opens, integer_directly, integer_opens_not, behind_ok, is_taken_true, is_taken_above, is_taken_left}
 
 -- ---- what is read is shorter
 

@@ -1,5 +1,5 @@
 -- One turn of the reader's loops, and what its exits give.
-use Rattle.std.proofs.Common.{◌≡◌, ◌≢◌, ℕ, zero, suc, ◌-◌, ◌<◌, ◌≤◌, IsTrue, Bool, true, false, List, [], ◌∷◌, ◌++◌, length, ◌⊎◌, inl, inr, Option, Some, None, Result, Ok, Err, codes, refl, sym, ap, subst, ◌∙◌, arith, if◌then◌else◌}
+use Rattle.std.proofs.Common.{nat_le, ◌≡◌, ◌≢◌, ℕ, zero, suc, ◌-◌, ◌<◌, ◌≤◌, IsTrue, Bool, true, false, List, [], ◌∷◌, ◌++◌, length, ◌⊎◌, inl, inr, Option, Some, None, Result, Ok, Err, codes, refl, sym, ap, subst, ◌∙◌, arith, if◌then◌else◌}
 use Rattle.std.proofs.lemmas.Bool.{lt-leb, le-leb}
 use Rattle.std.specs.Option.{option_map}
 use Rattle.tp_terms.specs.Term.{Name}
@@ -25,8 +25,8 @@ use Rattle.tp_parse.specs.Reading.{Read, Term, Inner, ◌>>=◌, primary, primar
 use Rattle.tp_parse.specs.Words.{lexed_of, ahead, AreKnown, IsKnown, first_word, after_word, kind_of, atom_before, prefix_by, infix_by}
 use Rattle.tp_parse.specs.Steps.{act, trees_of, label_name, top_of, under, onto, count, list_of, linked, infix_word, taken_of, operator_of, operator_by, is_named, IsLabel, label_by, labelled}
 use Rattle.tp_parse.specs.Gives.{Fails, IsRead, GivesTerm, IsRow, IsArg, IsLastArg, GivesArg, IsElement, IsLastElement, GivesElement, IsList, IsNoPart, IsPart, FollowsArg, simple, operand, compound}
-use Rattle.tp_parse.proofs.WordLemmas.{ahead-after, ahead-kind, ahead-infix, ahead-atom}
-use Rattle.tp_parse.proofs.StepLemmas.{trees-more, joined, onto-joined, count-joined, act-onto, linked-list, length-onto}
+use Rattle.tp_parse.proofs.ReadsTerms.Words.{ahead-after, ahead-kind, ahead-infix, ahead-atom}
+use Rattle.tp_parse.proofs.ReadsTerms.Steps.{trees-more, joined, onto-joined, count-joined, act-onto, linked-list, length-onto}
 
 -- ---- stops
 
@@ -296,9 +296,6 @@ pub parts-end : (ops : Table) (inner : Inner) (p : ℕ) (whole : Read Term) (n q
 unfolding infix_parts
 parts-end ops inner p whole n q start made ts e s = record { tree = s.tree; read = s.same ∙ ap (λ k. infix_parts ops inner k p s.tree q ts) e; made = s.made_is }
 
-pub parts-some : (ops : Table) (inner : Inner) (p : ℕ) (whole : Read Term) (n q : ℕ) (start made : List Tree) (ts : List Lexed) → PartsSoFar ops inner p whole n q start made ts → 0 < length made
-parts-some ops inner p whole n q start made ts s = omega (arith, ap length s.made_is)
-
 -- one infix part, by the operator that is taken
 module _ (ops : Table) (inner : Inner) (text : List ℕ) (more : Tree → ℕ → List Lexed → Read Term) (p q : ℕ) (t : Tree) (ws : List Word) (known : AreKnown ops text ws) where
   abbrev taken_part : Option (Label × Op) → Read Term
@@ -328,9 +325,13 @@ act-binary text name t u (s ∷ made) mid e h = ap (act text (step.Compound name
 
 -- ---- prefix operators
 
+-- a prefix operator with its operand, where its priority is within the bound
+abbrev pub within : Inner → ℕ → Name → List Lexed → Op → Read Term
+within inner p f ts o = if nat_le o.0 p then operand inner f ts o else Err (cause.Syntax, ts)
+
 abbrev pub by_operator : Inner → ℕ → Name → List Lexed → Option Op → Read Term
 by_operator inner p f ts None = Ok (Atom f, 0, ts)
-by_operator inner p f ts (Some o) = operand inner p f ts o
+by_operator inner p f ts (Some o) = within inner p f ts o
 
 pub prefixed-is : (ops : Table) (inner : Inner) (text : List ℕ) (p : ℕ) (w : Word) (ws : List Word) (o : Option Op) → AreKnown ops text ws → IsKnown ops text w → IsTrue (is_named w.token.kind) → operator_of w ws ≡ o → prefixed ops inner p (token_name text w.token) (ahead text ws) ≡ by_operator inner p (token_name text w.token) (ahead text ws) o
 unfolding prefixed
@@ -360,17 +361,17 @@ prefixed-is ops inner text p w ws o k g n e =
         choice : (b : Bool) → Ok (Atom (token_name text w.token), 0, ahead text ws) ≡ by_operator inner p (token_name text w.token) (ahead text ws) (operator_by None b)
         choice true = refl
         choice false = refl
-    by (Some x) = ap (λ b. if b then Ok (Atom (token_name text w.token), 0, ahead text ws) else operand inner p (token_name text w.token) (ahead text ws) x) (ahead-atom ops text ws k) ∙ choice (atom_before (first_word ws) (first_word (after_word ws)))
+    by (Some x) = ap (λ b. if b then Ok (Atom (token_name text w.token), 0, ahead text ws) else within inner p (token_name text w.token) (ahead text ws) x) (ahead-atom ops text ws k) ∙ choice (atom_before (first_word ws) (first_word (after_word ws)))
       where
-        choice : (b : Bool) → (if b then Ok (Atom (token_name text w.token), 0, ahead text ws) else operand inner p (token_name text w.token) (ahead text ws) x) ≡ by_operator inner p (token_name text w.token) (ahead text ws) (operator_by (Some x) b)
+        choice : (b : Bool) → (if b then Ok (Atom (token_name text w.token), 0, ahead text ws) else within inner p (token_name text w.token) (ahead text ws) x) ≡ by_operator inner p (token_name text w.token) (ahead text ws) (operator_by (Some x) b)
         choice true = refl
         choice false = refl
 
-pub operand-taken : (inner : Inner) (p : ℕ) (f : Name) (ts : List Lexed) (o : Op) → o.0 ≤ p → operand inner p f ts o ≡ (inner (right_bound o) ts >>= λ r. Ok (unary f r.0, o.0, r.2))
-operand-taken inner p f ts o h = ap (λ (b : Bool). if b then (inner (right_bound o) ts >>= λ r. Ok (unary f r.0, o.0, r.2)) else Err (cause.Syntax, ts)) (le-leb o.0 p h)
+pub operand-taken : (inner : Inner) (p : ℕ) (f : Name) (ts : List Lexed) (o : Op) → o.0 ≤ p → within inner p f ts o ≡ operand inner f ts o
+operand-taken inner p f ts o h = ap (λ (b : Bool). if b then operand inner f ts o else Err (cause.Syntax, ts)) (le-leb o.0 p h)
 
-pub operand-refused : (inner : Inner) (p : ℕ) (f : Name) (ts : List Lexed) (o : Op) → p < o.0 → operand inner p f ts o ≡ Err (cause.Syntax, ts)
-operand-refused inner p f ts o h = ap (λ (b : Bool). if b then (inner (right_bound o) ts >>= λ r. Ok (unary f r.0, o.0, r.2)) else Err (cause.Syntax, ts)) (lt-leb o.0 p h)
+pub operand-refused : (inner : Inner) (p : ℕ) (f : Name) (ts : List Lexed) (o : Op) → p < o.0 → within inner p f ts o ≡ Err (cause.Syntax, ts)
+operand-refused inner p f ts o h = ap (λ (b : Bool). if b then operand inner f ts o else Err (cause.Syntax, ts)) (lt-leb o.0 p h)
 
 -- ---- steps on what was read
 
@@ -381,10 +382,10 @@ compound-read inner text steps new start name n ts us left e l r = record {
   made = trees-more text steps new (step.Compound name n) e ∙ ap (act text (step.Compound name n)) r.made ∙ act-onto text name r.trees n start r.counted;
 }
 
-pub operand-read : (inner : Inner) (text : List ℕ) (steps new : List Step) (start : List Tree) (name : Label) (p q : ℕ) (ts left : List Lexed) (o : Op) → new ≡ steps ++ step.Compound name 1 ∷ [] → o.0 ≤ p → IsRead start (trees_of text steps) left q (inner (right_bound o) ts) → IsRead start (trees_of text new) left o.0 (operand inner p (label_name text name) ts o)
-operand-read inner text steps new start name p q ts left o e h r = record {
+pub operand-read : (inner : Inner) (text : List ℕ) (steps new : List Step) (start : List Tree) (name : Label) (q : ℕ) (ts left : List Lexed) (o : Op) → new ≡ steps ++ step.Compound name 1 ∷ [] → IsRead start (trees_of text steps) left q (inner (right_bound o) ts) → IsRead start (trees_of text new) left o.0 (operand inner (label_name text name) ts o)
+operand-read inner text steps new start name q ts left o e r = record {
   tree = unary (label_name text name) r.tree;
-  read = operand-taken inner p (label_name text name) ts o h ∙ ap (λ x. x >>= λ r. Ok (unary (label_name text name) r.0, o.0, r.2)) r.read;
+  read = ap (λ x. x >>= λ r. Ok (unary (label_name text name) r.0, o.0, r.2)) r.read;
   made = trees-more text steps new (step.Compound name 1) e ∙ ap (act text (step.Compound name 1)) r.made;
 }
 

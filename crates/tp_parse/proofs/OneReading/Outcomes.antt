@@ -11,12 +11,12 @@ use Rattle.tp_parse.specs.Stopping.{StopsClause, in_clause, clause_without_end, 
 use Rattle.tp_parse.specs.Laws.{HasOneOutcome, EachHasOneOutcome, ReadingFollowsGrammar}
 use Rattle.tp_parse.specs.declared.fault.ReadCause.{ReadCause}
 use Rattle.tp_parse.specs.declared.fault.ReadCause.TheVariants as cause
-use Rattle.tp_parse.proofs.TokenLawLemmas.{if_true, if_false, bind_ok, bind_err, ok-of, err-of, chosen, is_end_same, is_end_other, is_end_false, some_other, some_differs}
-use Rattle.tp_parse.proofs.GrammarLemmas.{complete}
-use Rattle.tp_parse.proofs.SoundLawLemmas.{sound}
-use Rattle.tp_parse.proofs.StopLemmas.{stopped}
-use Rattle.tp_parse.proofs.StopsLawLemmas.{stops}
-use Rattle.tp_parse.proofs.PlaceLawLemmas.{ends-StopsClause, ends-StopsGoal}
+use Rattle.tp_parse.proofs.OneReading.Tokens.{if_true, if_false, bind_ok, bind_err, ok-of, err-of, chosen, is_end_same, is_end_other, is_end_false, some_other, some_differs}
+use Rattle.tp_parse.proofs.OneReading.Complete.{complete}
+use Rattle.tp_parse.proofs.OneReading.Sound.{sound}
+use Rattle.tp_parse.proofs.OneReading.StopsComplete.{stopped}
+use Rattle.tp_parse.proofs.OneReading.StopsSound.{stops}
+use Rattle.tp_parse.proofs.OneReading.Places.{ends-StopsClause, ends-StopsGoal}
 
 -- ---- clauses
 
