@@ -9,7 +9,7 @@ ghost use Rattle.tp_meaning.specs.Body.{body};
 ghost use Rattle.tp_meaning.specs.Clauses.{renamed};
 ghost use Rattle.tp_meaning.specs.Subst.{mgu};
 ghost use Rattle.tp_store.specs.Contents.{AddsCells, AddsPairs, IsStore, Names, IsNumbered, IsUnbound, CanGoBack, Keeps, cut_to_mark, with_cell, with_vars, seen, seen_cell, subst_of};
-ghost use Rattle.tp_store.specs.Copy.{IsClaimed};
+ghost use Rattle.tp_store.specs.Copy.{IsClaimed, IsLast};
 
 use crate::body::body_of;
 use crate::chains::Chains;
@@ -101,6 +101,7 @@ impl Store {
         ensures keeps { Keeps self.old self.new }
         ensures place { IfOk result (λ at. at.at < length self.new.cells) }
         ensures shown { IfOk result (λ at. (names : List Name) → shows names self.new.cells at.at ≡ renamed base (shows names from.now.items root.at)) }
+        ensures last { IfOk result (λ at. IsLast self.old.cells self.new.cells (shows [] from.now.items root.at) at.at) }
         ensures err { OnErr result (self.new ≡ self.old) }
         ensures store { IsStore self.new }
 
