@@ -171,7 +171,7 @@ parked-live AwaitsMail h = absurd (cc)
 parked-live Ended h = absurd (cc)
 parked-live (Parked m) h = (refl, refl, refl)
 
-marked-runs : (w : World) (p : ℕ) → Valid w → w.running ≡ None → Marked w.processes p → Follows w.stamp (with_running p (stamped w))
+marked-runs : (w : World) (p : ℕ) → Valid w → w.running ≡ None → Marked w.processes p → Follows w (with_running p (stamped w))
 unfolding live_status status_in
 marked-runs w p v idle m =
     let k = parked-live m.process.status m.marked in
@@ -200,6 +200,7 @@ marked-runs w p v idle m =
             insertions = let i : w.insertion + busy w.processes ≤ w.stamp + 1 = v.insertions in omega arith;
           });
       stamp = refl;
+      next = omega arith;
     }
 
 -- ---- the first entry
@@ -253,18 +254,19 @@ begun-valid w p k v =
       insertions = rw (busy-same begun (λ x. refl) p w.processes) v.insertions;
     }
 
-starts-follow : (d : ℕ) (w : World) (p : ℕ) (q : Process) (o : Option Process) → p < length w.processes → w.stamp ≡ d + 1 → Ready w p q → Others w → Follows d (with_start p o (with_running p w))
-starts-follow d w p q None k s r x = record { valid = runs-valid w p q r x; stamp = s }
-starts-follow d w p q (Some y) k s r x = go y.started
+starts-follow : (v w : World) (p : ℕ) (q : Process) (o : Option Process) → p < length w.processes → w.stamp ≡ v.stamp + 1 → v.next ≤ w.next → Ready w p q → Others w → Follows v (with_start p o (with_running p w))
+starts-follow v w p q None k s n r x = record { valid = runs-valid w p q r x; stamp = s; next = n }
+starts-follow v w p q (Some y) k s n r x = go y.started
   where
-    go : (b : Bool) → Follows d (if b then with_running p w else with_event p Start (with_process p (λ q. record q { started = true }) (with_running p w)))
-    go true = record { valid = runs-valid w p q r x; stamp = s }
+    go : (b : Bool) → Follows v (if b then with_running p w else with_event p Start (with_process p (λ q. record q { started = true }) (with_running p w)))
+    go true = record { valid = runs-valid w p q r x; stamp = s; next = n }
     go false = record {
       valid = begun-valid (with_running p w) p (let len : length (at_place p run w.processes) ≡ length w.processes = length-at_place run p w.processes in omega (arith, len)) (runs-valid w p q r x);
       stamp = s;
+      next = n;
     }
 
-entered-follows : (w : World) (e : Slot) (es : List Slot) → Valid w → w.running ≡ None → w.calendar ≡ e ∷ es → list_any (is_late e.time) w.processes ≡ false → Follows w.stamp (entered w e es)
+entered-follows : (w : World) (e : Slot) (es : List Slot) → Valid w → w.running ≡ None → w.calendar ≡ e ∷ es → list_any (is_late e.time) w.processes ≡ false → Follows w (entered w e es)
 unfolding live_status status_in
 entered-follows w e es v idle c late =
     let fits : AllByRecursion (SlotFits (length w.processes) w.clock w.insertion) (e ∷ es) = subst (AllByRecursion (SlotFits (length w.processes) w.clock w.insertion)) c v.entries in
@@ -273,7 +275,7 @@ entered-follows w e es v idle c late =
     let due_here : 1 + slots_of e.process es ≡ due found.0.status =
     ap (λ b. (if b then 1 else 0) + slots_of e.process es) (sym (eq-eqb e.process e.process refl)) ∙ ap (slots_of e.process) (sym c) ∙ v.placed e.process ∙ ap (λ o. due (status_in o)) found.1 in
     let k = due-one found.0.status (slots_of e.process es) due_here in
-    starts-follow w.stamp (at_entry w e es) e.process found.0 (slice_get w.processes e.process) fits.0.0 refl
+    starts-follow w (at_entry w e es) e.process found.0 (slice_get w.processes e.process) fits.0.0 refl (omega arith)
     (record {
       there = found.1;
       live = k.0;
@@ -301,22 +303,22 @@ entered-follows w e es v idle c late =
     both [] a b = tt
     both (f ∷ fs) a b = ((a.0.0, before-le e f b.0, a.0.2), both fs a.1 b.1)
 
-by_calendar-follows : (w : World) (es : List Slot) → Valid w → w.running ≡ None → w.calendar ≡ es → EachFollows w.stamp (by_calendar w es)
+by_calendar-follows : (w : World) (es : List Slot) → Valid w → w.running ≡ None → w.calendar ≡ es → EachFollows w (by_calendar w es)
 by_calendar-follows w [] v idle c = go (list_any is_live w.processes)
   where
-    go : (b : Bool) → EachFollows w.stamp (if b then Dead Deadlock else Success)
+    go : (b : Bool) → EachFollows w (if b then Dead Deadlock else Success)
     go true = tt
     go false = tt
 by_calendar-follows w (e ∷ es) v idle c = go (list_any (is_late e.time) w.processes) refl
   where
-    go : (b : Bool) → list_any (is_late e.time) w.processes ≡ b → EachFollows w.stamp (if b then Dead Late else one (entered w e es))
+    go : (b : Bool) → list_any (is_late e.time) w.processes ≡ b → EachFollows w (if b then Dead Late else one (entered w e es))
     go true l = tt
     go false l = (entered-follows w e es v idle c l, tt)
 
 -- the law of the scheduler
-pub choose-follows : (w : World) → Valid w → w.running ≡ None → EachFollows w.stamp (choose w)
+pub choose-follows : (w : World) → Valid w → w.running ≡ None → EachFollows w (choose w)
 choose-follows w v idle = go (first_marked w.processes) (first_marked-is w.processes)
   where
-    go : (o : Option ℕ) → IfSome o (Marked w.processes) → EachFollows w.stamp (elim o [ None ↦ by_calendar w w.calendar | Some p ↦ one (with_running p (stamped w)) ])
+    go : (o : Option ℕ) → IfSome o (Marked w.processes) → EachFollows w (elim o [ None ↦ by_calendar w w.calendar | Some p ↦ one (with_running p (stamped w)) ])
     go None h = by_calendar-follows w w.calendar v idle refl
     go (Some p) h = (marked-runs w p v idle h, tt)

@@ -46,9 +46,9 @@ stamped-valid w v = record {
 
 -- ---- worlds that are tried in order
 
-pub some-follow : (d : ℕ) (ws : List World) → AllByRecursion (Follows d) ws → EachFollows d (some ws)
-some-follow d [] h = tt
-some-follow d (w ∷ ws) h = h
+pub some-follow : (v : World) (ws : List World) → AllByRecursion (Follows v) ws → EachFollows v (some ws)
+some-follow v [] h = tt
+some-follow v (w ∷ ws) h = h
 
 -- ---- the end
 
@@ -60,11 +60,11 @@ ended-valid w p v r =
 
 -- ---- wait
 
-tried-follows : (t : Turn) (g : Term) → TurnFits t → Below t.world.next g → Follows t.world.stamp (tried t g)
+tried-follows : (t : Turn) (g : Term) → TurnFits t → Below t.world.next g → Follows t.world (tried t g)
 tried-follows t g f h = going-follows t (Goal g (t.world.stamp + 1) ∷ Commit t.world.stamp ∷ t.rest) f.valid ((h, omega arith), (omega arith, later t f))
 
 parks : (t : Turn) (g : Term) → TurnFits t → Below t.world.next g → Valid (going t (Retry g ∷ t.rest))
 parks t g f h = goes t (Retry g ∷ t.rest) f (h, later t f)
 
-pub await_again-follows : (t : Turn) (g : Term) → TurnFits t → Below t.world.next g → EachFollows t.world.stamp (await_again t g)
-await_again-follows t g f h = (tried-follows t g f h, (record { valid = leave-valid (going t (Retry g ∷ t.rest)) t.process (Parked false) (parks t g f h) f.running refl refl (omega arith); stamp = refl }, tt))
+pub await_again-follows : (t : Turn) (g : Term) → TurnFits t → Below t.world.next g → EachFollows t.world (await_again t g)
+await_again-follows t g f h = (tried-follows t g f h, (record { valid = leave-valid (going t (Retry g ∷ t.rest)) t.process (Parked false) (parks t g f h) f.running refl refl (omega arith); stamp = refl; next = omega arith }, tt))

@@ -1,8 +1,8 @@
 -- What holds of each world of a state, and stays.
-use Rattle.std.proofs.Common.{ℕ, Bool, true, false, cond, nat_lt, List, [], ◌∷◌}
+use Rattle.std.proofs.Common.{◌≡◌, ℕ, ◌+◌, ◌≤◌, arith, Bool, true, false, cond, nat_lt, List, [], ◌∷◌}
 use Rattle.std.specs.List.{AllByRecursion}
 use Rattle.tp_meaning.specs.Search.{Searched, Step, Success, Dead, Raise, Commit, Branch}
-use Rattle.tp_meaning.specs.Machine.{Choice, State, stepped_by, stepped, rewound, rewound_to, resumed, resumed_by, resumed_from, with_choice, cut_from}
+use Rattle.tp_meaning.specs.Machine.{Choice, State, stepped_by, stepped, rewound, rewound_to, resumed, resumed_by, resumed_from, with_choice, cut_from, Rises}
 use Rattle.tp_meaning.specs.World.{World}
 use Rattle.tp_meaning.specs.Turn.{Gives}
 use Rattle.tp_meaning.specs.Valid.{Valid, Follows, EachFollows, ClauseFits}
@@ -70,16 +70,32 @@ resumed-holds P s h = resumed_from-holds P s s.choices h.choices h
 
 -- ---- valid worlds
 
-follows-valid : (d : ℕ) (g : Gives) → EachFollows d g → EachHolds Valid g
-follows-valid d Success h = tt
-follows-valid d (Dead c) h = tt
-follows-valid d (Raise e) h = tt
-follows-valid d (Commit c v) h = h.valid
-follows-valid d (Branch v more) h = (h.0.valid, all-weaker (Follows d) Valid (λ w k. k.valid) more h.1)
+-- a valid world with at least so many variables
+pub record Stands (n : ℕ) (w : World) : Type 0 where
+  pub valid : Valid w
+  pub vars : n ≤ w.next
 
--- each world of a step of a valid world is valid
-pub step-valid : (base : Base) (w : World) → AllByRecursion ClauseFits base → Valid w → EachHolds Valid (step base w)
-step-valid base w a v = follows-valid w.stamp (step base w) (stamps_rise base w a v)
+follow-stand : (n : ℕ) (w : World) (g : Gives) → n ≤ w.next → EachFollows w g → EachHolds (Stands n) g
+follow-stand n w Success le h = tt
+follow-stand n w (Dead c) le h = tt
+follow-stand n w (Raise e) le h = tt
+follow-stand n w (Commit c v) le h = record { valid = h.valid; vars = omega (arith, h.next) }
+follow-stand n w (Branch v more) le h = (
+  record { valid = h.0.valid; vars = omega (arith, h.0.next) },
+  all-weaker (Follows w) (Stands n) (λ u k. record { valid = k.valid; vars = omega (arith, k.next) }) more h.1,
+)
 
-pub stepped-valid : (base : Base) (s : State World) → AllByRecursion ClauseFits base → Holds Valid s → Holds Valid (stepped (searched base) s).1
-stepped-valid base s a h = stepped-holds Valid (searched base) s (step-valid base s.world a h.world) h
+-- each world that a step gives has the next stamp
+pub follow-rise : (base : Base) (w : World) (g : Gives) → EachFollows w g → Rises (searched base) w g
+follow-rise base w Success h = tt
+follow-rise base w (Dead c) h = tt
+follow-rise base w (Raise e) h = tt
+follow-rise base w (Commit c v) h = h.stamp
+follow-rise base w (Branch v more) h = (h.0.stamp, all-weaker (Follows w) (λ u. u.stamp ≡ w.stamp + 1) (λ u k. k.stamp) more h.1)
+
+-- a step of a state whose worlds are valid gives such a state, and its worlds rise
+pub stepped-stands : (base : Base) (n : ℕ) (s : State World) → AllByRecursion ClauseFits base → Holds (Stands n) s → Holds (Stands n) (stepped (searched base) s).1
+stepped-stands base n s a h = stepped-holds (Stands n) (searched base) s (follow-stand n s.world (step base s.world) h.world.vars (stamps_rise base s.world a h.world.valid)) h
+
+pub step-rises : (base : Base) (w : World) → AllByRecursion ClauseFits base → Valid w → Rises (searched base) w (step base w)
+step-rises base w a v = follow-rise base w (step base w) (stamps_rise base w a v)

@@ -1,12 +1,13 @@
 -- Worlds that a running process goes on to are valid.
 use Rattle.std.proofs.Common.{◌≡◌, ℕ, zero, suc, ◌+◌, ◌≤◌, Bool, true, false, List, [], ◌∷◌, length, Option, Some, None, IfOk, IfSome, refl, ap, ◌∙◌, sym, arith, if◌then◌else◌}
-use Rattle.tp_terms.specs.Term.{Term, Var, Int, Atom, Comp, NoMore, More}
+use Rattle.tp_terms.specs.Term.{Name, Term, Terms, Var, Int, Atom, Comp, NoMore, More}
 use Rattle.tp_meaning.specs.Body.{body, joins_goals, pair_body}
 use Rattle.tp_meaning.specs.World.{World, Process, Item, Goal, Commit, Retry, at_place, with_items, stamped, status_at}
-use Rattle.tp_meaning.specs.Valid.{Below, ItemFits, ItemsFit, busy, waits_or_runs, Valid, Follows, EachFollows, is_running, due}
+use Rattle.tp_meaning.specs.Valid.{Below, AllBelow, ItemFits, ItemsFit, busy, waits_or_runs, Valid, Follows, EachFollows, is_running, due}
 use Rattle.tp_meaning.specs.Turn.{Turn, going}
-use Rattle.tp_meaning.specs.Control as c
-use Rattle.tp_meaning.specs.Control.{Control, control}
+use Rattle.tp_meaning.specs.declared.goals.ControlGoal.{ControlGoal}
+use Rattle.tp_meaning.specs.declared.goals.ControlGoal.TheVariants as c
+use Rattle.tp_meaning.specs.Control.{control, arg}
 use Rattle.tp_meaning.proofs.Places.{map-at_place, length-at_place, all-at_place, all-weaker}
 
 pub status-same : (f : Process → Process) → ((q : Process) → (f q).status ≡ q.status) → (n : ℕ) (ps : List Process) (q : ℕ) → status_at (at_place n f ps) q ≡ status_at ps q
@@ -31,7 +32,7 @@ pub items-later : (n d : ℕ) (is : List Item) → ItemsFit n d is → ItemsFit 
 items-later n d is h = all-weaker (ItemFits n d) (ItemFits n (d + 1)) (item-later n d) is h
 
 -- the process has other items
-pub keeps : (w : World) (p : ℕ) (items : List Item) → Valid w → ItemsFit w.next (w.stamp + 1) items → Follows w.stamp (with_items p items (stamped w))
+pub keeps : (w : World) (p : ℕ) (items : List Item) → Valid w → ItemsFit w.next (w.stamp + 1) items → Follows w (with_items p items (stamped w))
 keeps w p items v fit =
     let f : Process → Process = λ q. record q { items = items } in
     let len : length (at_place p f w.processes) ≡ length w.processes = length-at_place f p w.processes in
@@ -53,9 +54,10 @@ keeps w p items v fit =
         insertions = let h : w.insertion + busy w.processes ≤ w.stamp + 1 = v.insertions in rw (busy-same f (λ x. refl) p w.processes) (omega arith);
       };
       stamp = refl;
+      next = omega arith;
     }
 
-pub going-follows : (t : Turn) (items : List Item) → Valid t.world → ItemsFit t.world.next (t.world.stamp + 1) items → Follows t.world.stamp (going t items)
+pub going-follows : (t : Turn) (items : List Item) → Valid t.world → ItemsFit t.world.next (t.world.stamp + 1) items → Follows t.world (going t items)
 going-follows t items v fit = keeps t.world t.process items v fit
 
 -- ---- bodies
@@ -79,22 +81,26 @@ body-below n (Comp f ts) h = h
 
 -- ---- control goals
 
--- the arguments of a control goal have variables below a number
-abbrev pub ControlFits : ℕ → Control → Type 0
-ControlFits n c.True = Unit {0}
-ControlFits n c.Fail = Unit {0}
-ControlFits n (c.And x y) = Below n x × Below n y
+pub arg-below : (n k : ℕ) (ts : Terms) → AllBelow n ts → Below n (arg k ts)
+arg-below n k NoMore h = tt
+arg-below n zero (More t ts) h = h.0
+arg-below n (suc k) (More t ts) h = arg-below n k ts h.1
 
-pub control-follows : (t : Turn) (b : ℕ) (k : Control) → Valid t.world → b ≤ t.world.stamp → ControlFits t.world.next k → ItemsFit t.world.next t.world.stamp t.rest → IfOk (control t b k) (EachFollows t.world.stamp)
-control-follows t b k v le fit now = go k fit
+-- a control goal, whose arguments have variables below the next one
+pub control-follows : (t : Turn) (b : ℕ) (k : ControlGoal) (f : Name) (ts : Terms) → Valid t.world → b ≤ t.world.stamp → AllBelow t.world.next ts → ItemsFit t.world.next t.world.stamp t.rest → IfOk (control t b k f ts) (EachFollows t.world)
+control-follows t b k f ts v le fit now = go k
   where
     rest : ItemsFit t.world.next (t.world.stamp + 1) t.rest
     rest = items-later t.world.next t.world.stamp t.rest now
 
-    to : (items : List Item) → ItemsFit t.world.next (t.world.stamp + 1) items → Follows t.world.stamp (going t items)
+    to : (items : List Item) → ItemsFit t.world.next (t.world.stamp + 1) items → Follows t.world (going t items)
     to items h = going-follows t items v h
 
-    go : (k : Control) → ControlFits t.world.next k → IfOk (control t b k) (EachFollows t.world.stamp)
-    go c.True h = (to t.rest rest, tt)
-    go c.Fail h = tt
-    go (c.And x y) h = (to (Goal x b ∷ Goal y b ∷ t.rest) ((h.0, omega arith), ((h.1, omega arith), rest)), tt)
+    argument : (n : ℕ) → ItemFits t.world.next (t.world.stamp + 1) (Goal (arg n ts) b)
+    argument n = (arg-below t.world.next n ts fit, omega arith)
+
+    go : (k : ControlGoal) → IfOk (control t b k f ts) (EachFollows t.world)
+    go c.True = (to t.rest rest, tt)
+    go c.Fail = tt
+    go c.Conjunction = (to (Goal (arg 0 ts) b ∷ Goal (arg 1 ts) b ∷ t.rest) (argument 0, (argument 1, rest)), tt)
+    go _ = tt

@@ -12,7 +12,6 @@ pub mod Under
 pub mod Leaves
 pub mod Goes
 pub mod Rise
-pub mod Rises
 pub mod Holds
 pub mod Made
 pub mod OneUnifier
@@ -21,3 +20,4 @@ pub mod Bodies
 pub mod Seen
 mod Rows
 mod RowsOfParts
+pub mod OwnGoals

@@ -94,7 +94,7 @@ over_next f n k r s u v more cs h =
     ∙ over_prefix f n k r (each f (v ∷ more) s (n - r.steps) (k - length r.answers)) cs
 
 -- two ends that no choice below a stamp tells apart
-pub record Alike {E : Type 0} (s : ℕ) (a b : End E) : Type 0 where
+pub record Alike {W E : Type 0} (s : ℕ) (a b : End W E) : Type 0 where
   pub below : (t : ℕ) → t < s → goes_on t a ≡ goes_on t b
   pub closed : closed_end a ≡ closed_end b
 
@@ -106,7 +106,7 @@ cond_cases false F x y z e = e
 same_test : (t c x : ℕ) → t < c → nat_lt t (min c x) ≡ nat_lt t x
 same_test t c x lt = grind (arith, nat_tests)
 
-alike_over : {W E : Type 0} → (f : W → ℕ → ℕ → Outcome W E) → (n k s : ℕ) → (r : Outcome W E) → (a b : End E) → (cs : List (Choice W)) → Descends s cs → Alike s a b → closed (over f n k (record r { how = a }) cs) ≡ closed (over f n k (record r { how = b }) cs)
+alike_over : {W E : Type 0} → (f : W → ℕ → ℕ → Outcome W E) → (n k s : ℕ) → (r : Outcome W E) → (a b : End W E) → (cs : List (Choice W)) → Descends s cs → Alike s a b → closed (over f n k (record r { how = a }) cs) ≡ closed (over f n k (record r { how = b }) cs)
 alike_over f n k s r a b [] d h = ap (λ e. record r { how = e }) h.closed
 alike_over f n k s r a b (c ∷ cs) d h =
     ap (λ g. closed (over f n k (either_of g (followed_by r (each f c.untried c.stamp (n - r.steps) (k - length r.answers))) (record r { how = a })) cs)) (h.below c.stamp d.0)
@@ -114,7 +114,7 @@ alike_over f n k s r a b (c ∷ cs) d h =
     (alike_over f n k c.stamp r a b cs d.1 (record { below = λ t lt. h.below t (let lt' : c.stamp < s = d.0 in omega arith); closed = h.closed }))
 
 -- a failure with a stamp that reaches a branch, or without one, is alike for what stands below
-reaches : {E : Type 0} → (s : ℕ) → (h : End E) → goes_on s h ≡ true → Alike s (Fails None) h
+reaches : {W E : Type 0} → (s : ℕ) → (h : End W E) → goes_on s h ≡ true → Alike s (Fails None) h
 reaches s (Fails None) e = record { below = λ t lt. refl; closed = refl }
 reaches s (Fails (Some x)) e = record { below = λ t lt. sym (lt-ltb t x (let h : s < x = ltb-true _ _ e in omega arith)); closed = refl }
 reaches s Stopped e = absurd (cc)
@@ -134,7 +134,7 @@ over_with_choice f n k s u r [] cs d = over_spent f n k s u r cs d
 over_with_choice f n k s u r (v ∷ more) cs d = refl
 
 -- below its commit a choice sees a failure as it was
-capped_alike : {E : Type 0} → (c : ℕ) → (h : End E) → Alike c (capped_end c h) h
+capped_alike : {W E : Type 0} → (c : ℕ) → (h : End W E) → Alike c (capped_end c h) h
 capped_alike c (Fails None) = record { below = λ t lt. lt-ltb t c lt; closed = refl }
 capped_alike c (Fails (Some x)) = record { below = λ t lt. same_test t c x lt; closed = refl }
 capped_alike c Stopped = record { below = λ t lt. refl; closed = refl }
@@ -142,7 +142,7 @@ capped_alike c (Raised e t) = record { below = λ t lt. refl; closed = refl }
 capped_alike c Budget = record { below = λ t lt. refl; closed = refl }
 
 -- a choice from the commit on is skipped
-capped_skips : {E : Type 0} → (s c : ℕ) → (h : End E) → nat_lt s c ≡ false → goes_on s (capped_end c h) ≡ false
+capped_skips : {W E : Type 0} → (s c : ℕ) → (h : End W E) → nat_lt s c ≡ false → goes_on s (capped_end c h) ≡ false
 capped_skips s c (Fails None) e = e
 capped_skips s c (Fails (Some x)) e = le-ltb _ _ (let le : c ≤ s = ltb-false _ _ e in omega arith)
 capped_skips s c Stopped e = refl
@@ -170,8 +170,8 @@ one = after 1 (Fails None)
 pub machine-zero : {W E : Type 0} → (x : Searched W E) → (w : W) → (cs : List (Choice W)) → (k : ℕ) → from_machine x w cs 0 k ≡ after 0 Budget
 machine-zero x w cs k = rw (try-zero x w k) (ap closed (over_stopped (try x) 0 k (after 0 Budget) cs (λ s. refl)))
 
-pub machine-raise : {W E : Type 0} → (x : Searched W E) → (w : W) → (cs : List (Choice W)) → (n k : ℕ) → (e : E) → x.step w ≡ Raise e → from_machine x w cs (suc n) k ≡ after 1 (Raised e (x.clock w))
-machine-raise x w cs n k e h = rw (try-suc x w n k, h) (ap closed (over_stopped (try x) (suc n) k (after 1 (Raised e (x.clock w))) cs (λ s. refl)))
+pub machine-raise : {W E : Type 0} → (x : Searched W E) → (w : W) → (cs : List (Choice W)) → (n k : ℕ) → (e : E) → x.step w ≡ Raise e → from_machine x w cs (suc n) k ≡ after 1 (Raised e w)
+machine-raise x w cs n k e h = rw (try-suc x w n k, h) (ap closed (over_stopped (try x) (suc n) k (after 1 (Raised e w)) cs (λ s. refl)))
 
 pub machine-branch : {W E : Type 0} → (x : Searched W E) → (w : W) → (cs : List (Choice W)) → (n k : ℕ) → (v : W) → (more : List W) → x.step w ≡ Branch v more → Descends (x.stamp w) cs
     → from_machine x w cs (suc n) k ≡ followed_by one (from_machine x v (with_choice (x.stamp w) w more cs) n k)

@@ -4,19 +4,18 @@ use Rattle.std.specs.List.{AllByRecursion}
 use Rattle.std.proofs.lemmas.Bool.{ne_eqb}
 use Rattle.tp_terms.specs.Term.{Name, Term, Terms, Var, Int, Atom, Comp, NoMore, More, all_replaced, names_eq, count_of, term_of}
 use Rattle.tp_meaning.specs.Subst.{Subst, mgu}
-use Rattle.tp_meaning.specs.Lookup.{Row, found}
-use Rattle.tp_meaning.specs.Checks.{Checked, existence_error, indicator}
+use Rattle.tp_meaning.specs.Checks.{Checked, unknown}
 use Rattle.tp_meaning.specs.Body.{body}
 use Rattle.tp_meaning.specs.World.{World, Process, Item, Goal, Commit, Retry, start, status_at, items_at, world_under}
 use Rattle.tp_meaning.specs.Turn.{Turn, Gives, some, raised_at}
-use Rattle.tp_meaning.specs.Control as c
-use Rattle.tp_meaning.specs.Control.{Control, control, control_of}
+use Rattle.tp_meaning.specs.Goals.{GoalKind, goal_kind}
+use Rattle.tp_meaning.specs.Goals as kind
 use Rattle.tp_meaning.specs.Clauses.{Clause, Base, predicate, renamed, head_of, body_items, by_clause, try_clause, worlds_of, user_goal}
 use Rattle.tp_meaning.specs.Scheduler.{choose}
-use Rattle.tp_meaning.specs.Step.{kind_by, kind_of, goal_by, goal_step, item_step, step}
+use Rattle.tp_meaning.specs.Step.{goal_by, goal_step, item_step, step}
 use Rattle.tp_meaning.specs.Valid.{slots_of, due, is_running, Below, AllBelow, ItemsFit, EventFits, KindFits, Valid, Follows, EachFollows, ClauseFits, StampsRise}
 use Rattle.tp_meaning.proofs.Places.{all-weaker, all-append}
-use Rattle.tp_meaning.proofs.Keeps.{keeps, items-later, going-follows, body-below, ControlFits, control-follows}
+use Rattle.tp_meaning.proofs.Keeps.{keeps, items-later, going-follows, body-below, control-follows}
 use Rattle.tp_meaning.proofs.Acts.{choose-follows}
 use Rattle.tp_meaning.proofs.Under.{Unifies, mgu-unifies, under-valid, replaced-below, all_replaced-below, below-more, bound-more}
 use Rattle.tp_meaning.proofs.Goes.{TurnFits, later, some-follow, ended-valid, await_again-follows}
@@ -70,7 +69,7 @@ head-below n d h = go d.args h.head
     go NoMore k = tt
     go (More t ts) k = all_renamed-below n d.vars (More t ts) k
 
-try-follows : (t : Turn) (g : Term) (d : Clause) → TurnFits t → Below t.world.next g → ClauseFits d → IfSome (try_clause t g d) (Follows t.world.stamp)
+try-follows : (t : Turn) (g : Term) (d : Clause) → TurnFits t → Below t.world.next g → ClauseFits d → IfSome (try_clause t g d) (Follows t.world)
 try-follows t g d f bg k =
     go (mgu t.world.subst g (renamed t.world.next (head_of d)))
     (mgu-unifies n t.world.subst g (renamed t.world.next (head_of d)) (below-more t.world.next n g (omega arith) bg) (head-below t.world.next d k) (bound-more t.world.next n t.world.subst (omega arith) f.valid.bindings) f.valid.is_subst)
@@ -97,15 +96,15 @@ try-follows t g d f bg k =
     made : Valid (by_clause t d)
     made = (keeps (record t.world { next = n }) t.process (body_items d t.world ++ t.rest) (next-valid t.world n f.valid (omega arith)) (all-append _ (body_items d t.world) t.rest items rest)).valid
 
-    go : (o : Option Subst) → IfSome o (Unifies n) → IfSome (elim o [ None ↦ None | Some u ↦ Some (world_under u (by_clause t d)) ]) (Follows t.world.stamp)
+    go : (o : Option Subst) → IfSome o (Unifies n) → IfSome (elim o [ None ↦ None | Some u ↦ Some (world_under u (by_clause t d)) ]) (Follows t.world)
     go None h = tt
-    go (Some u) h = record { valid = under-valid u (by_clause t d) h made; stamp = refl }
+    go (Some u) h = record { valid = under-valid u (by_clause t d) h made; stamp = refl; next = omega arith }
 
-worlds-follow : (t : Turn) (g : Term) (ds : Base) → TurnFits t → Below t.world.next g → AllByRecursion ClauseFits ds → AllByRecursion (Follows t.world.stamp) (worlds_of t g ds)
+worlds-follow : (t : Turn) (g : Term) (ds : Base) → TurnFits t → Below t.world.next g → AllByRecursion ClauseFits ds → AllByRecursion (Follows t.world) (worlds_of t g ds)
 worlds-follow t g [] f bg k = tt
 worlds-follow t g (d ∷ ds) f bg k = go (try_clause t g d) (try-follows t g d f bg k.0) (worlds-follow t g ds f bg k.1)
   where
-    go : (o : Option World) → IfSome o (Follows t.world.stamp) → AllByRecursion (Follows t.world.stamp) (worlds_of t g ds) → AllByRecursion (Follows t.world.stamp) (Rattle.std.specs.List.cons_option o (worlds_of t g ds))
+    go : (o : Option World) → IfSome o (Follows t.world) → AllByRecursion (Follows t.world) (worlds_of t g ds) → AllByRecursion (Follows t.world) (Rattle.std.specs.List.cons_option o (worlds_of t g ds))
     go None h r = r
     go (Some w) h r = (h, r)
 
@@ -121,70 +120,39 @@ term_of-below : (n : ℕ) (f : Name) (ts : Terms) → AllBelow n ts → Below n 
 term_of-below n f NoMore h = tt
 term_of-below n f (More t ts) h = h
 
-user-follows : (base : Base) (t : Turn) (f : Name) (ts : Terms) → AllByRecursion ClauseFits base → TurnFits t → AllBelow t.world.next ts → IfOk (user_goal base t f ts) (EachFollows t.world.stamp)
+user-follows : (base : Base) (t : Turn) (f : Name) (ts : Terms) → AllByRecursion ClauseFits base → TurnFits t → AllBelow t.world.next ts → IfOk (user_goal base t f ts) (EachFollows t.world)
 user-follows base t f ts a k h = go (predicate base f (count_of ts)) (predicate-fits base f (count_of ts) a)
   where
-    go : (ds : Base) → AllByRecursion ClauseFits ds → IfOk (elim ds [ [] ↦ Err (existence_error "procedure" (indicator f (count_of ts))) | d ∷ ds ↦ Ok (some (worlds_of t (term_of f ts) (d ∷ ds))) ]) (EachFollows t.world.stamp)
+    go : (ds : Base) → AllByRecursion ClauseFits ds → IfOk (elim ds [ [] ↦ Err (unknown f (count_of ts)) | d ∷ ds ↦ Ok (some (worlds_of t (term_of f ts) (d ∷ ds))) ]) (EachFollows t.world)
     go [] x = tt
-    go (d ∷ ds) x = some-follow t.world.stamp (worlds_of t (term_of f ts) (d ∷ ds)) (worlds-follow t (term_of f ts) (d ∷ ds) k (term_of-below t.world.next f ts h) x)
-
--- ---- the kinds of goals
-
-found-fits : {A : Type 0} (P : A → Type 0) (f : Name) (n : ℕ) (rs : List (Row A)) → AllByRecursion (λ r. P r.what) rs → IfSome (found f n rs) P
-found-fits P f n [] a = tt
-found-fits P f n (r ∷ rs) a = go (names_eq f r.name && nat_eq n r.count) (found-fits P f n rs a.1)
-  where
-    go : (b : Bool) → IfSome (found f n rs) P → IfSome (if b then Some r.what else found f n rs) P
-    go true h = a.0
-    go false h = h
-
-at-fits : {A B : Type 0} (P : (A → B) → Type 0) (Q : B → Type 0) (o : Option (A → B)) (x : A) → ((g : A → B) → P g → Q (g x)) → IfSome o P → IfSome (c.option_at o x) Q
-at-fits P Q None x h k = tt
-at-fits P Q (Some g) x h k = h g k
-
--- control goals of one and two arguments
-abbrev Fit1 : ℕ → (Term → Control) → Type 0
-Fit1 n g = (a : Term) → Below n a → ControlFits n (g a)
-
-abbrev Fit2 : ℕ → (Term → Term → Control) → Type 0
-Fit2 n g = (a b : Term) → Below n a → Below n b → ControlFits n (g a b)
-
-control_of-fits : (n : ℕ) (f : Name) (ts : Terms) → AllBelow n ts → IfSome (control_of f ts) (ControlFits n)
-control_of-fits n f NoMore h = found-fits (ControlFits n) f 0 c.of_none (tt, (tt, tt))
-control_of-fits n f (More x NoMore) h = tt
-control_of-fits n f (More x (More y NoMore)) h =
-    at-fits (Fit1 n) (ControlFits n) (c.option_at (found f 2 c.of_two) x) y (λ g k. k y h.1.0)
-    (at-fits (Fit2 n) (Fit1 n) (found f 2 c.of_two) x (λ g k b. k x b h.0)
-    (found-fits (Fit2 n) f 2 c.of_two ((λ a b i j. (i, j)), tt)))
-control_of-fits n f (More x (More y (More z ts))) h = tt
+    go (d ∷ ds) x = some-follow t.world (worlds_of t (term_of f ts) (d ∷ ds)) (worlds-follow t (term_of f ts) (d ∷ ds) k (term_of-below t.world.next f ts h) x)
 
 -- ---- a step
 
-goal_by-follows : (base : Base) (t : Turn) (b : ℕ) (f : Name) (ts : Terms) → AllByRecursion ClauseFits base → TurnFits t → b ≤ t.world.stamp → AllBelow t.world.next ts → IfOk (goal_by base t b f ts (kind_of f ts)) (EachFollows t.world.stamp)
-goal_by-follows base t b f ts a k le h = go (control_of f ts) (control_of-fits t.world.next f ts h)
-  where
-    go : (x : Option Control) → IfSome x (ControlFits t.world.next) → IfOk (goal_by base t b f ts (kind_by x)) (EachFollows t.world.stamp)
-    go (Some x) i = control-follows t b x k.valid le i k.rest
-    go None i = user-follows base t f ts a k h
+goal_by-follows : (base : Base) (t : Turn) (b : ℕ) (f : Name) (ts : Terms) (o : Option GoalKind) → AllByRecursion ClauseFits base → TurnFits t → b ≤ t.world.stamp → AllBelow t.world.next ts → IfOk (goal_by base t b f ts o) (EachFollows t.world)
+goal_by-follows base t b f ts (Some (kind.Control k)) a fit le h = control-follows t b k f ts fit.valid le h fit.rest
+goal_by-follows base t b f ts (Some (kind.Process k)) a fit le h = tt
+goal_by-follows base t b f ts (Some (kind.BuiltIn k)) a fit le h = tt
+goal_by-follows base t b f ts None a fit le h = user-follows base t f ts a fit h
 
-goal_step-follows : (base : Base) (t : Turn) (b : ℕ) (g : Term) → AllByRecursion ClauseFits base → TurnFits t → b ≤ t.world.stamp → Below t.world.next g → IfOk (goal_step base t b g) (EachFollows t.world.stamp)
+goal_step-follows : (base : Base) (t : Turn) (b : ℕ) (g : Term) → AllByRecursion ClauseFits base → TurnFits t → b ≤ t.world.stamp → Below t.world.next g → IfOk (goal_step base t b g) (EachFollows t.world)
 goal_step-follows base t b (Var v) a k le h = tt
 goal_step-follows base t b (Int z) a k le h = tt
-goal_step-follows base t b (Atom f) a k le h = goal_by-follows base t b f NoMore a k le tt
-goal_step-follows base t b (Comp f ts) a k le h = goal_by-follows base t b f ts a k le h
+goal_step-follows base t b (Atom f) a k le h = goal_by-follows base t b f NoMore (goal_kind f 0) a k le tt
+goal_step-follows base t b (Comp f ts) a k le h = goal_by-follows base t b f ts (goal_kind f (count_of ts)) a k le h
 
-raised-follows : (d : ℕ) (w : World) (q : ℕ) (r : Checked Gives) → IfOk r (EachFollows d) → EachFollows d (raised_at w q r)
-raised-follows d w q (Ok g) h = h
-raised-follows d w q (Err e) h = tt
+raised-follows : (w : World) (q : ℕ) (r : Checked Gives) → IfOk r (EachFollows w) → EachFollows w (raised_at w q r)
+raised-follows w q (Ok g) h = h
+raised-follows w q (Err e) h = tt
 
 items-fit : (n d : ℕ) (ps : List Process) (q : ℕ) → AllByRecursion (λ q. ItemsFit n d q.items) ps → ItemsFit n d (items_at ps q)
 items-fit n d [] q a = tt
 items-fit n d (x ∷ xs) zero a = a.0
 items-fit n d (x ∷ xs) (suc q) a = items-fit n d xs q a.1
 
-item-follows : (base : Base) (w : World) (q : ℕ) (is : List Item) → AllByRecursion ClauseFits base → Valid w → w.running ≡ Some q → ItemsFit w.next w.stamp is → EachFollows w.stamp (item_step base w q is)
-item-follows base w q [] a v r h = (record { valid = ended-valid w q v r; stamp = refl }, tt)
-item-follows base w q (Goal g b ∷ rest) a v r h = raised-follows w.stamp w q _ (goal_step-follows base (record { world = w; process = q; rest = rest }) b g a (record { valid = v; running = r; rest = h.1 }) h.0.1 h.0.0)
+item-follows : (base : Base) (w : World) (q : ℕ) (is : List Item) → AllByRecursion ClauseFits base → Valid w → w.running ≡ Some q → ItemsFit w.next w.stamp is → EachFollows w (item_step base w q is)
+item-follows base w q [] a v r h = (record { valid = ended-valid w q v r; stamp = refl; next = omega arith }, tt)
+item-follows base w q (Goal g b ∷ rest) a v r h = raised-follows w q _ (goal_step-follows base (record { world = w; process = q; rest = rest }) b g a (record { valid = v; running = r; rest = h.1 }) h.0.1 h.0.0)
 item-follows base w q (Commit k ∷ rest) a v r h = going-follows (record { world = w; process = q; rest = rest }) rest v (items-later w.next w.stamp rest h.1)
 item-follows base w q (Retry g ∷ rest) a v r h = await_again-follows (record { world = w; process = q; rest = rest }) g (record { valid = v; running = r; rest = h.1 }) h.0
 
@@ -192,7 +160,7 @@ pub stamps_rise : StampsRise
 unfolding step
 stamps_rise base w a v = go w.running refl
   where
-    go : (o : Option ℕ) → w.running ≡ o → EachFollows w.stamp (elim o [ None ↦ choose w | Some q ↦ item_step base w q (items_at w.processes q) ])
+    go : (o : Option ℕ) → w.running ≡ o → EachFollows w (elim o [ None ↦ choose w | Some q ↦ item_step base w q (items_at w.processes q) ])
     go None e = choose-follows w v e
     go (Some q) e = item-follows base w q (items_at w.processes q) a v e (items-fit w.next w.stamp w.processes q v.todo)
 

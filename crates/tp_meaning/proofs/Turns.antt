@@ -123,7 +123,7 @@ kept_by {W} {E} x m n k (Dead c) e r st few =
     len : length (dead_more c m.tally).answers ≡ length m.tally.answers
     len = dead_len c m.tally
 kept_by x m n k (Raise y) e r st few =
-    ap (λ (q : Outcome _ _). record q { how = Raised y (x.clock m.world) }) (one_is m.tally) ∙ ap (followed_by m.tally) (sym (machine-raise x m.world m.choices n (k - length m.tally.answers) y e))
+    ap (λ (q : Outcome _ _). record q { how = Raised y m.world }) (one_is m.tally) ∙ ap (followed_by m.tally) (sym (machine-raise x m.world m.choices n (k - length m.tally.answers) y e))
 kept_by x m n k (Commit c v) e r st few =
     step_on x m v (cut_from c m.choices) n k few (stack_cut x c (x.stamp m.world) (x.stamp v) m.choices (let up : x.stamp v ≡ x.stamp m.world + 1 = r in omega arith) st) (let up : x.stamp v ≡ x.stamp m.world + 1 = r in omega arith)
     (machine-commit x m.world m.choices n (k - length m.tally.answers) c v e (stack_descends x _ _ st))
@@ -131,13 +131,10 @@ kept_by x m n k (Branch v more) e r st few =
     step_on x m v (with_choice (x.stamp m.world) m.world more m.choices) n k few (stack_with x (x.stamp m.world) m.world v more m.choices refl r.0 r.1 st) (let up : x.stamp v ≡ x.stamp m.world + 1 = r.0 in omega arith)
     (machine-branch x m.world m.choices n (k - length m.tally.answers) v more e (stack_descends x _ _ st))
 
--- A turn of a machine with a stack of choices, fewer answers than wanted, and n steps left behind it.
-pub kept : {W E : Type 0} (x : Searched W E) → ((w : W) → Rises x w (x.step w)) → (m : Machine W E) (n k : ℕ) → IsStack x (x.stamp m.world) m.choices → length m.tally.answers < k → Kept x m n k (turn_by x k (x.step m.world) m)
-kept x rise m n k st few = kept_by x m n k (x.step m.world) refl (rise m.world) st few
-
--- the same, from what a step answered
-pub kept-turned : {W E : Type 0} (x : Searched W E) → ((w : W) → Rises x w (x.step w)) → (s s' : State W) (t : Outcome W E) (a : Stepped E) (n k : ℕ) → (a, s') ≡ stepped x s → IsStack x (x.stamp s.world) s.choices → length t.answers < k → Kept x (machine_of s t) n k (turned x k a s' t)
-kept-turned x rise s s' t a n k e st few = subst (λ (r : Stepped _ × State _). Kept x (machine_of s t) n k (turned x k r.0 r.1 t)) (sym e) (kept x rise (machine_of s t) n k st few)
+-- A turn of a machine with a stack of choices, fewer answers than wanted, and n steps left behind it, from what its
+-- step answered.
+pub kept-turned : {W E : Type 0} (x : Searched W E) (s s' : State W) (t : Outcome W E) (a : Stepped E) (n k : ℕ) → Rises x s.world (x.step s.world) → (a, s') ≡ stepped x s → IsStack x (x.stamp s.world) s.choices → length t.answers < k → Kept x (machine_of s t) n k (turned x k a s' t)
+kept-turned x s s' t a n k rise e st few = subst (λ (r : Stepped _ × State _). Kept x (machine_of s t) n k (turned x k r.0 r.1 t)) (sym e) (kept_by x (machine_of s t) n k (x.step s.world) refl rise st few)
 
 -- at the start nothing was found yet
 pub total-start : {W E : Type 0} (x : Searched W E) (m : Machine W E) (w : W) (n k : ℕ) → m ≡ started w → total x m n k ≡ closed (try x w n k)

@@ -44,6 +44,10 @@ permission_error act what culprit = comp "permission_error" (atom act ∷ atom w
 abbrev pub indicator : Name → ℕ → Term
 indicator name arity = comp "/" (Atom name ∷ nat arity ∷ [])
 
+-- no clause defines the goals of a name and a number of arguments
+abbrev pub unknown : Name → ℕ → Term
+unknown name arity = existence_error "procedure" (indicator name arity)
+
 -- an error as it is raised, with its kind and the name of the process
 abbrev pub error : Term → Name → Term
 error kind name = comp "error" (kind ∷ Atom name ∷ [])

@@ -3,7 +3,7 @@ use Rattle.std.specs.Prelude.{ℕ, ◌+◌, nat_eq, ◌&&◌, List, [], ◌∷�
 use Rattle.std.specs.List.{filter_map}
 use Rattle.tp_terms.specs.Term.{Name, Term, Terms, Var, names_eq, count_of, term_of, replaced}
 use Rattle.tp_meaning.specs.Subst.{mgu}
-use Rattle.tp_meaning.specs.Checks.{Checked, existence_error, indicator}
+use Rattle.tp_meaning.specs.Checks.{Checked, unknown}
 use Rattle.tp_meaning.specs.World.{World, Item, Goal, world_under}
 use Rattle.tp_meaning.specs.Turn.{Turn, Gives, going, some}
 
@@ -49,6 +49,6 @@ worlds_of t g = filter_map (try_clause t g)
 -- a goal by its predicate
 abbrev pub user_goal : Base → Turn → Name → Terms → Checked Gives
 user_goal base t f ts = elim (predicate base f (count_of ts)) [
-  | [] ↦ Err (existence_error "procedure" (indicator f (count_of ts)))
+  | [] ↦ Err (unknown f (count_of ts))
   | c ∷ cs ↦ Ok (some (worlds_of t (term_of f ts) (c ∷ cs)))
 ]

@@ -1,7 +1,7 @@
 pub mod Order
 pub mod Subst
 pub mod Unifier
-pub mod Lookup
+pub mod Goals
 pub mod Checks
 pub mod Body
 pub mod World
@@ -14,4 +14,5 @@ pub mod Process
 pub mod Scheduler
 pub mod Clauses
 pub mod Step
+pub mod Reserved
 pub mod Valid

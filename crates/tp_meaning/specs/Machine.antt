@@ -100,7 +100,7 @@ dead_more Late t = record t { steps = t.steps + 1; late = t.late + 1 }
 abbrev pub answer_more : {W E : Type 0} → W → Outcome W E → Outcome W E
 answer_more w t = record t { answers = t.answers ++ (w, t.steps + 1) ∷ []; steps = t.steps + 1 }
 
-abbrev pub ended : {W E : Type 0} → End E → Outcome W E → Outcome W E
+abbrev pub ended : {W E : Type 0} → End W E → Outcome W E → Outcome W E
 ended how t = record t { how = how }
 
 -- back to the last choice, and an end where there is none
@@ -112,7 +112,7 @@ abbrev pub turned : {W E : Type 0} → Searched W E → ℕ → Stepped E → St
 turned x k Went s t = GoesOn (machine_of s (one_more t))
 turned x k Success s t = if nat_lt (length t.answers + 1) k then back_to (answer_more s.world t) s else Ends (ended Stopped (answer_more s.world t))
 turned x k (Dead c) s t = back_to (dead_more c t) s
-turned x k (Raised e) s t = Ends (ended (search.Raised e (x.clock s.world)) (one_more t))
+turned x k (Raised e) s t = Ends (ended (search.Raised e s.world) (one_more t))
 
 -- one step of a machine, and back to a choice where it fails
 abbrev pub turn_by : {W E : Type 0} → Searched W E → ℕ → Step W E → Machine W E → Turn W E
@@ -143,10 +143,10 @@ Rises x w (search.Branch v more) = (x.stamp v ≡ x.stamp w + 1) × AllByRecursi
 -- ---- whole searches
 
 -- a failed end whose stamp is forgotten
-abbrev pub closed_end : {E : Type 0} → End E → End E
+abbrev pub closed_end : {W E : Type 0} → End W E → End W E
 closed_end (Fails s) = Fails None
 closed_end Stopped = Stopped
-closed_end (search.Raised e t) = search.Raised e t
+closed_end (search.Raised e w) = search.Raised e w
 closed_end search.Budget = search.Budget
 
 -- the whole search, for which it doesn't matter what stamp a failure carries

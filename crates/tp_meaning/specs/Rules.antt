@@ -10,7 +10,7 @@ pub record SearchRules {W E : Type 0} (x : Searched W E) : Type 0 where
   pub no_steps : (w : W) (k : ℕ) → try x w 0 k ≡ after 0 Budget
   pub success : (w : W) (n k : ℕ) → x.step w ≡ Success → try x w (suc n) k ≡ answer w k
   pub dead : (w : W) (n k : ℕ) (c : DeadCause) → x.step w ≡ Dead c → try x w (suc n) k ≡ dead_end c
-  pub raise : (w : W) (n k : ℕ) (e : E) → x.step w ≡ Raise e → try x w (suc n) k ≡ after 1 (Raised e (x.clock w))
+  pub raise : (w : W) (n k : ℕ) (e : E) → x.step w ≡ Raise e → try x w (suc n) k ≡ after 1 (Raised e w)
   pub commit : (w : W) (n k c : ℕ) (v : W) → x.step w ≡ Commit c v → try x w (suc n) k ≡ capped c (with_step (try x v n k))
   pub branch : (w : W) (n k : ℕ) (v : W) (more : List W) → x.step w ≡ Branch v more → try x w (suc n) k ≡ with_step (each (try x) (v ∷ more) (x.stamp w) n k)
   pub each_empty : (s n k : ℕ) → each (try x) [] s n k ≡ after 0 (Fails None)

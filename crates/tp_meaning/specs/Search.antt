@@ -1,5 +1,5 @@
 -- What a depth-first search of worlds finds, whatever a world and a step of it are.
-use Rattle.std.specs.Prelude.{ℕ, zero, suc, ◌+◌, ◌-◌, min, Bool, true, false, nat_eq, nat_lt, if◌then◌else◌, List, [], ◌∷◌, ◌++◌, map, length, Option, Some, None, ℤ}
+use Rattle.std.specs.Prelude.{ℕ, zero, suc, ◌+◌, ◌-◌, min, Bool, true, false, nat_eq, nat_lt, if◌then◌else◌, List, [], ◌∷◌, ◌++◌, map, length, Option, Some, None}
 pub use Rattle.tp_meaning.specs.declared.DeadCause.{DeadCause}
 pub use Rattle.tp_meaning.specs.declared.DeadCause.TheVariants.{Failed, Deadlock, Late}
 
@@ -12,18 +12,17 @@ pub data Step (W E : Type 0) : Type 0 where
   -- the first world, and the others in order
   Branch : W → List W → Step W E
 
--- worlds that are searched: their steps, and for each its stamp and its clock
+-- worlds that are searched: their steps, and for each its stamp
 pub record Searched (W E : Type 0) : Type 0 where
   pub step : W → Step W E
   pub stamp : W → ℕ
-  pub clock : W → ℤ
 
--- how a search ends; a failure may carry a stamp, and an error comes with the clock
-pub data End (E : Type 0) : Type 0 where
-  Fails : Option ℕ → End E
-  Stopped : End E
-  Raised : E → ℤ → End E
-  Budget : End E
+-- how a search ends; a failure may carry a stamp, and an error comes with the world whose step raised it
+pub data End (W E : Type 0) : Type 0 where
+  Fails : Option ℕ → End W E
+  Stopped : End W E
+  Raised : E → W → End W E
+  Budget : End W E
 
 -- an answer is a world and the number of steps up to it
 pub record Outcome (W E : Type 0) : Type 0 where
@@ -32,10 +31,10 @@ pub record Outcome (W E : Type 0) : Type 0 where
   pub failed : ℕ
   pub deadlock : ℕ
   pub late : ℕ
-  pub how : End E
+  pub how : End W E
 
 -- an outcome of this many steps without an answer
-abbrev pub after : {W E : Type 0} → ℕ → End E → Outcome W E
+abbrev pub after : {W E : Type 0} → ℕ → End W E → Outcome W E
 after n how = record { answers = []; steps = n; failed = 0; deadlock = 0; late = 0; how = how }
 
 -- an answer found after n steps more
@@ -73,21 +72,21 @@ lesser c None = c
 lesser c (Some x) = min c x
 
 -- a failure below a commit carries the lesser of its own stamp and the commit's
-abbrev pub capped_end : {E : Type 0} → ℕ → End E → End E
+abbrev pub capped_end : {W E : Type 0} → ℕ → End W E → End W E
 capped_end c (Fails x) = Fails (Some (lesser c x))
 capped_end c Stopped = Stopped
-capped_end c (Raised e t) = Raised e t
+capped_end c (Raised e w) = Raised e w
 capped_end c Budget = Budget
 
 abbrev pub capped : {W E : Type 0} → ℕ → Outcome W E → Outcome W E
 capped c r = record r { how = capped_end c r.how }
 
 -- the end is a failure that doesn't skip the other worlds of a branch made at this stamp
-abbrev pub goes_on : {E : Type 0} → ℕ → End E → Bool
+abbrev pub goes_on : {W E : Type 0} → ℕ → End W E → Bool
 goes_on s (Fails None) = true
 goes_on s (Fails (Some x)) = nat_lt s x
 goes_on s Stopped = false
-goes_on s (Raised e t) = false
+goes_on s (Raised e w) = false
 goes_on s Budget = false
 
 -- searches worlds in order, each by the given search of n steps and k answers
@@ -104,7 +103,7 @@ each search (v ∷ more) s n k =
 abbrev pub goes : {W E : Type 0} → (W → ℕ → ℕ → Outcome W E) → Searched W E → W → Step W E → ℕ → ℕ → Outcome W E
 goes search x w Success n k = answer w k
 goes search x w (Dead c) n k = dead_end c
-goes search x w (Raise e) n k = after 1 (Raised e (x.clock w))
+goes search x w (Raise e) n k = after 1 (Raised e w)
 goes search x w (Commit c v) n k = capped c (with_step (search v n k))
 goes search x w (Branch v more) n k = with_step (each search (v ∷ more) (x.stamp w) n k)
 

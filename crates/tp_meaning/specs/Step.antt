@@ -1,38 +1,30 @@
 -- One step of a world.
 use Rattle.std.specs.Prelude.{ℕ, List, [], ◌∷◌, Option, Some, None, Err}
-use Rattle.tp_terms.specs.Term.{Name, Term, Terms, Var, Int, Atom, Comp, NoMore}
-use Rattle.tp_meaning.specs.Checks.{Checked, unbound, type_error}
+use Rattle.tp_terms.specs.Term.{Name, Term, Terms, Var, Int, Atom, Comp, NoMore, count_of}
+use Rattle.tp_meaning.specs.Checks.{Checked, unbound, type_error, unknown}
 use Rattle.tp_meaning.specs.World.{World, Item, Goal, Retry, Ended, End, start, with_status, with_event, let_go, stamped, items_at}
 use Rattle.tp_meaning.specs.World as item
 use Rattle.tp_meaning.specs.Search.{Commit, Searched, Outcome, try}
 use Rattle.tp_meaning.specs.Turn.{Turn, Gives, going, one, raised_at}
-use Rattle.tp_meaning.specs.Control.{Control, control, control_of}
+use Rattle.tp_meaning.specs.Goals.{GoalKind, Control, Process, BuiltIn, goal_kind}
+use Rattle.tp_meaning.specs.Control.{control}
 use Rattle.tp_meaning.specs.Process.{await_again}
 use Rattle.tp_meaning.specs.Clauses.{Base, user_goal}
 use Rattle.tp_meaning.specs.Scheduler.{choose}
 
--- what kind of goal a name with arguments is
-pub data Kind : Type 0 where
-  OfControl : Control → Kind
-  OfUser : Kind
-
-abbrev pub kind_by : Option Control → Kind
-kind_by (Some c) = OfControl c
-kind_by None = OfUser
-
-abbrev pub kind_of : Name → Terms → Kind
-kind_of f ts = kind_by (control_of f ts)
-
-abbrev pub goal_by : Base → Turn → ℕ → Name → Terms → Kind → Checked Gives
-goal_by base t b f ts (OfControl c) = control t b c
-goal_by base t b f ts OfUser = user_goal base t f ts
+-- what a goal gives, by its kind; process goals and built-ins are unknown as yet
+abbrev pub goal_by : Base → Turn → ℕ → Name → Terms → Option GoalKind → Checked Gives
+goal_by base t b f ts (Some (Control k)) = control t b k f ts
+goal_by base t b f ts (Some (Process k)) = Err (unknown f (count_of ts))
+goal_by base t b f ts (Some (BuiltIn k)) = Err (unknown f (count_of ts))
+goal_by base t b f ts None = user_goal base t f ts
 
 -- no item holds a variable or an integer as its goal
 abbrev pub goal_step : Base → Turn → ℕ → Term → Checked Gives
 goal_step base t b (Var v) = Err unbound
 goal_step base t b (Int z) = Err (type_error "callable" (Int z))
-goal_step base t b (Atom f) = goal_by base t b f NoMore (kind_of f NoMore)
-goal_step base t b (Comp f ts) = goal_by base t b f ts (kind_of f ts)
+goal_step base t b (Atom f) = goal_by base t b f NoMore (goal_kind f 0)
+goal_step base t b (Comp f ts) = goal_by base t b f ts (goal_kind f (count_of ts))
 
 -- the end of a process
 abbrev pub ended : World → ℕ → World
@@ -51,7 +43,7 @@ step base w = elim (w.running) [ None ↦ choose w | Some p ↦ item_step base w
 
 -- the search of a model's worlds
 abbrev pub searched : Base → Searched World Term
-searched base = record { step = step base; stamp = λ w. w.stamp; clock = λ w. w.clock }
+searched base = record { step = step base; stamp = λ w. w.stamp }
 
 -- A goal with so many variables, searched with n steps for k answers. Its end is called no more where it fails, with a
 -- stamp or with none.

@@ -126,24 +126,25 @@ pub record Valid (w : World) : Type 0 where
   -- each process that runs or awaits mail leaves room for one more insertion
   pub insertions : w.insertion + busy w.processes ≤ w.stamp + 1
 
--- a valid world one step on
-pub record Follows (d : ℕ) (w : World) : Type 0 where
-  pub valid : Valid w
-  pub stamp : w.stamp ≡ d + 1
+-- a valid world one step on: it has the next stamp, and no fewer variables
+pub record Follows (w v : World) : Type 0 where
+  pub valid : Valid v
+  pub stamp : v.stamp ≡ w.stamp + 1
+  pub next : w.next ≤ v.next
 
--- every world that a step gives
-abbrev pub EachFollows : ℕ → Gives → Type 0
-EachFollows d Success = Unit {0}
-EachFollows d (Dead c) = Unit {0}
-EachFollows d (Raise e) = Unit {0}
-EachFollows d (search.Commit c w) = Follows d w
-EachFollows d (Branch w ws) = Follows d w × AllByRecursion (Follows d) ws
+-- every world that a step of a world gives
+abbrev pub EachFollows : World → Gives → Type 0
+EachFollows w Success = Unit {0}
+EachFollows w (Dead c) = Unit {0}
+EachFollows w (Raise e) = Unit {0}
+EachFollows w (search.Commit c v) = Follows w v
+EachFollows w (Branch v more) = Follows w v × AllByRecursion (Follows w) more
 
 -- a clause's variables are numbered below its number of variables
 pub record ClauseFits (c : Clause) : Type 0 where
   pub head : AllBelow c.vars c.args
   pub body : IfSome c.body (Below c.vars)
 
--- The law of a step: each world of a step of a valid world is valid, with the stamp plus 1.
+-- The law of a step: each world of a step of a valid world is valid, with the stamp plus 1 and no fewer variables.
 abbrev pub StampsRise : Type 0
-StampsRise = (base : Base) (w : World) → AllByRecursion ClauseFits base → Valid w → EachFollows w.stamp (step base w)
+StampsRise = (base : Base) (w : World) → AllByRecursion ClauseFits base → Valid w → EachFollows w (step base w)

@@ -58,27 +58,40 @@ pub record World : Type 0 where
   pub boxes : List (List Term)
   pub history : List Event
 
--- ---- terms seen under a substitution
+-- ---- terms changed, each in the same way
 
+abbrev pub item_by : (Term → Term) → Item → Item
+item_by f (Goal g b) = Goal (f g) b
+item_by f (Commit c) = Commit c
+item_by f (Retry g) = Retry (f g)
+
+abbrev pub kind_by : (Term → Term) → EventKind → EventKind
+kind_by f (New n t l) = New n t l
+kind_by f Start = Start
+kind_by f End = End
+kind_by f (Hold d) = Hold d
+kind_by f (Send m p) = Send (f m) p
+kind_by f (Take m) = Take (f m)
+kind_by f (Note m) = Note (f m)
+
+abbrev pub event_by : (Term → Term) → Event → Event
+event_by f e = record e { kind = kind_by f e.kind }
+
+abbrev pub process_by : (Term → Term) → Process → Process
+process_by f p = record p { items = map (item_by f) p.items }
+
+-- terms seen under a substitution
 abbrev pub item_under : Subst → Item → Item
-item_under s (Goal g b) = Goal (apply s g) b
-item_under s (Commit c) = Commit c
-item_under s (Retry g) = Retry (apply s g)
+item_under s = item_by (apply s)
 
 abbrev pub kind_under : Subst → EventKind → EventKind
-kind_under s (New n t l) = New n t l
-kind_under s Start = Start
-kind_under s End = End
-kind_under s (Hold d) = Hold d
-kind_under s (Send m p) = Send (apply s m) p
-kind_under s (Take m) = Take (apply s m)
-kind_under s (Note m) = Note (apply s m)
+kind_under s = kind_by (apply s)
 
 abbrev pub event_under : Subst → Event → Event
-event_under s e = record e { kind = kind_under s e.kind }
+event_under s = event_by (apply s)
 
 abbrev pub process_under : Subst → Process → Process
-process_under s p = record p { items = map (item_under s) p.items }
+process_under s = process_by (apply s)
 
 -- a world whose substitution was extended
 abbrev pub world_under : Subst → World → World

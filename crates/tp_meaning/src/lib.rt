@@ -1,7 +1,10 @@
 //! The meaning of a model: worlds, a step of one, and the search.
 #![tactic(auto)]
 
+mod goals;
 pub mod laws;
+
+pub use goals::{BuiltId, ControlGoal, GoalKind, ProcessGoal, goal_kind};
 
 /// Why a world is a dead end.
 #[derive(Clone, Copy, Debug, PartialEq, Eq)]
@@ -23,6 +26,7 @@ mod tests {
         laws::search_rules();
         laws::stamps_rise();
         laws::one_unifier();
+        laws::reserved_names();
         assert!(rt; DeadCause::Failed != DeadCause::Late);
     }
 }

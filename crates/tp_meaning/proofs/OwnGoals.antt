@@ -1,0 +1,3 @@
+-- The goals that the language has of its own.
+pub mod Found
+pub mod Reserved
