@@ -12,6 +12,7 @@ pub mod StepLemmas
 pub mod ReadLemmas
 pub mod LoopLemmas
 pub mod VariableLemmas
+pub mod NewNamesLemmas
 pub mod BuildLemmas
 pub mod WholeLemmas
 pub mod TellLemmas

@@ -1,5 +1,5 @@
 -- Words: they are tokens taken one by one, and what stands first in them stands first in the tokens.
-use Rattle.std.proofs.Common.{◌≡◌, ℕ, suc, Bool, false, not, ◌&&◌, List, [], ◌∷◌, ◌++◌, length, Option, Some, None, Result, Ok, Err, codes, is_some, is_none, refl, sym, ap, subst, ◌∙◌, if◌then◌else◌, append_assoc, ◌<◌, ◌≤◌, arith}
+use Rattle.std.proofs.Common.{◌≡◌, ◌⊎◌, inl, inr, ℕ, suc, Bool, false, not, ◌&&◌, List, [], ◌∷◌, ◌++◌, length, Option, Some, None, Result, Ok, Err, codes, is_some, is_none, refl, sym, ap, subst, ◌∙◌, if◌then◌else◌, append_assoc, ◌<◌, ◌≤◌, arith}
 use Rattle.std.specs.Option.{option_map}
 use Rattle.std.proofs.lemmas.List.{map-append}
 use Rattle.tp_terms.specs.Term.{Name}
@@ -12,6 +12,7 @@ use Rattle.tp_parse.specs.Table.{Op, Table}
 use Rattle.tp_parse.specs.declared.steps.Label.{Label}
 use Rattle.tp_parse.specs.declared.steps.Label.TheVariants.{Written, Comma}
 use Rattle.tp_parse.specs.Ahead.{named_infix, infix_name_by, with_op_of, is_atom_by, first_kind, after_first, opens_directly, is_integer_directly, infix_ahead, is_atom_before}
+use Rattle.tp_parse.specs.Texts.{HasToken}
 use Rattle.tp_parse.specs.Words.{lexed_of, ahead, IsKnown, AreKnown, first_word, after_word, kind_of, opens_by, integer_by, atom_before, atom_by, infix_by, prefix_by}
 use Rattle.tp_parse.specs.Steps.{label_name, label_by, labelled, infix_word}
 use Rattle.tp_parse.specs.declared.words.Word.{Word}
@@ -35,6 +36,27 @@ known-push ops text (v ∷ ws) w h k = (h.0, known-push ops text ws w h.1 k)
 before-token : (front : List Lexed) (t : Lexed) (r : Result (List Lexed) LexFault) → before front (with_token t r) ≡ before (front ++ t ∷ []) r
 before-token front t (Ok more) = ap Ok (sym (append_assoc front (t ∷ []) more))
 before-token front t (Err fault) = refl
+
+-- a token that stands behind some words stands there too where none was taken, and one does where some were
+pub token-at : (text : List ℕ) (at from : ℕ) → ((from ≡ at) ⊎ HasToken text at) → HasToken text from → HasToken text at
+token-at text at from (inl e) h = subst (HasToken text) e h
+token-at text at from (inr k) h = k
+
+-- no words yet
+pub words-start : (text : List ℕ) (ws : List Word) (r : Result (List Lexed) LexFault) → ws ≡ [] → before (ahead text ws) r ≡ r
+words-start text ws r e = ap (λ l. before (ahead text l) r) e ∙ by r
+  where
+    by : (r : Result (List Lexed) LexFault) → before [] r ≡ r
+    by (Ok more) = refl
+    by (Err fault) = refl
+
+pub known-none : (ops : Table) (text : List ℕ) (ws : List Word) → ws ≡ [] → AreKnown ops text ws
+known-none ops text ws e = subst (AreKnown ops text) (sym e) tt
+
+-- a first word is one of some
+pub some-first : (ws : List Word) (w : Word) → first_word ws ≡ Some w → 0 < length ws
+some-first [] w e = cc
+some-first (v ∷ ws) w e = omega arith
 
 -- one more word
 pub words-more : (text : List ℕ) (ws pushed : List Word) (w : Word) (stop : Bool) (r more whole : Result (List Lexed) LexFault) → pushed ≡ ws ++ w ∷ [] → r ≡ (if stop then Ok (lexed_of text w ∷ []) else with_token (lexed_of text w) more) → false ≡ stop → before (ahead text ws) r ≡ whole → before (ahead text pushed) more ≡ whole

@@ -12,6 +12,7 @@ pub mod Steps
 pub mod Gives
 pub mod Making
 pub mod Whole
+pub mod NewNames
 pub mod Tells
 pub mod Grammar
 pub mod Stopping

@@ -1,7 +1,9 @@
 -- The clause that stands in a text from a byte on, and the goal of a text; or the one refusal.
-use Rattle.std.specs.Prelude.{ℕ, Bool, List, [], ◌∷◌, length, Option, Some, None, Result, Ok, Err, if◌then◌else◌}
+use Rattle.std.specs.Prelude.{◌≡◌, ℕ, Bool, List, [], ◌∷◌, length, Option, Some, None, Result, Ok, Err, if◌then◌else◌}
 use Rattle.tp_terms.specs.Term.{Term}
+use Rattle.tp_lex.specs.Next.{next}
 use Rattle.tp_lex.specs.Tokens.{Lexed, is_end, tokens, goal_tokens}
+use Rattle.tp_lex.specs.declared.token.Token.{Token}
 use Rattle.tp_lex.specs.declared.token.LexFault.{LexFault}
 use Rattle.tp_lex.specs.declared.token.LexFault.TheVariants as lexing
 use Rattle.tp_parse.specs.Tree.{Tree}
@@ -28,6 +30,11 @@ abbrev pub refused_token : LexFault → Refusal
 refused_token (lexing.BadToken byte) = (byte, cause.Token)
 refused_token (lexing.NumberRange byte) = (byte, cause.Number)
 refused_token (lexing.Unfinished byte) = (byte, cause.Unfinished)
+
+-- a token stands behind a byte of the text
+pub record HasToken (text : List ℕ) (at : ℕ) : Type 0 where
+  pub token : Token
+  pub found : next text at ≡ Ok (Some token)
 
 -- the byte of the first of these tokens, and that of the end where there is none
 abbrev pub byte_at : ℕ → List Lexed → ℕ

@@ -11,14 +11,3 @@ pub fn one_reading()
     ensures one { EachHasOneOutcome }
     ensures follows { ReadingFollowsGrammar }
 {}
-
-#[cfg(test)]
-mod tests {
-    use super::*;
-
-    #[test]
-    fn laws_can_be_called(rt: HostRuntime) {
-        one_reading();
-        assert!(rt; true);
-    }
-}

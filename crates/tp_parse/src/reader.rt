@@ -60,7 +60,8 @@ fn is_taken(op: Op, bound: u16, priority: u16) -> bool
 
 /// Why no term of this depth begins there.
 fn too_deep(cursor: &Cursor<'_>) -> Stop
-    ensures { (text : List ℕ) → Fails (ahead text cursor.now) result (too_deep (ahead text cursor.now)) }
+    ensures fails { (text : List ℕ) → Fails (ahead text cursor.now) result (too_deep (ahead text cursor.now)) }
+    ensures memory { ¬ (result ≡ Stop.NoMemory) }
 {
     match cursor.first() {
         Some(_) => Stop::At(ReadCause::Depth),
@@ -163,6 +164,7 @@ fn pass_atom(
 fn follow_argument(cursor: &mut Cursor<'_>, rest: u8) -> Result<Follows, Stop>
     ensures follows { (text : List ℕ) (more : List Lexed → Read (Trees × List Lexed)) (tree : Tree) → FollowsArg more rest tree (ahead text cursor.new) result (after_arg more rest tree (ahead text cursor.old) (first_kind (ahead text cursor.old))) }
     ensures after { OnOk result (cursor.new ≡ after_word cursor.old) }
+    ensures memory { IfErr result (λ stop. ¬ (stop ≡ Stop.NoMemory)) }
     ensures err { OnErr result (cursor.new ≡ cursor.old) }
 {
     let Some(kind) = cursor.kind() else {
@@ -205,6 +207,7 @@ pub fn read(
     ensures gives { let ops = table_of source.now.ops.now in let text = source.now.text.now in GivesTerm (trees_of text steps.old.items) (trees_of text steps.new.items) (ahead text cursor.new) result
         (reading ops levels bound (ahead text cursor.old)) }
     ensures going { IsGoing (table_of source.now.ops.now) source.now.text.now cursor.new steps.new.items }
+    ensures memory { result ≡ Err Stop.NoMemory → 0 < length cursor.old }
     ensures shorter { OnOk result (length cursor.new < length cursor.old) }
 {
     if levels == 0 {
@@ -227,6 +230,7 @@ fn read_primary(
     ensures gives { let ops = table_of source.now.ops.now in let text = source.now.text.now in GivesTerm (trees_of text steps.old.items) (trees_of text steps.new.items) (ahead text cursor.new) result
         (primary ops (reading ops levels) bound (ahead text cursor.old)) }
     ensures going { IsGoing (table_of source.now.ops.now) source.now.text.now cursor.new steps.new.items }
+    ensures memory { result ≡ Err Stop.NoMemory → 0 < length cursor.old }
     ensures shorter { OnOk result (length cursor.new < length cursor.old) }
 {
     let Some(word) = cursor.first() else {
@@ -478,6 +482,7 @@ fn read_operand(
     requires named { IsTrue (is_named word.token.kind) }
     ensures gives { let ops = table_of source.now.ops.now in let text = source.now.text.now in GivesTerm (trees_of text steps.old.items) (trees_of text steps.new.items) (ahead text cursor.new) result
         (operand (reading ops levels) bound (token_name text word.token) (ahead text cursor.old) op) }
+    ensures memory { result ≡ Err Stop.NoMemory → op.0 ≤ bound }
     ensures going { IsGoing (table_of source.now.ops.now) source.now.text.now cursor.new steps.new.items }
     ensures shorter { OnOk result (length cursor.new ≤ length cursor.old) }
 {

@@ -1,12 +1,14 @@
 //! Whole clauses and goals, from their words.
 
-ghost use Rattle.std.specs.Prelude.{◌≡◌, ℕ, List, []};
+ghost use Rattle.std.specs.Prelude.{◌≡◌, ℕ, List, [], ◌<◌, length, Err, IfErr, IfOk, OnOk};
 ghost use Rattle.tp_lex.specs.Tokens.{is_end};
 ghost use Rattle.tp_terms.specs.Names.{Grows};
 ghost use Rattle.tp_parse.specs.Gives.{Fails, IsGoing};
+ghost use Rattle.tp_parse.specs.NewNames.{AddsOnly, mentions};
 ghost use Rattle.tp_parse.specs.Ops.{table_of};
 ghost use Rattle.tp_parse.specs.Reading.{finished};
 ghost use Rattle.tp_parse.specs.Steps.{trees_of};
+ghost use Rattle.tp_parse.specs.Tells.{term_read};
 ghost use Rattle.tp_parse.specs.Texts.{byte_at};
 ghost use Rattle.tp_parse.specs.Tree.{Tree};
 ghost use Rattle.tp_parse.specs.Whole.{GivesEnd, GivesWhole, TellsSteps, TellsWhole, ended_of, ends_of, reading_of, to_of};
@@ -31,7 +33,8 @@ const MOST_PRIORITY: u16 = 1200;
 
 /// Nothing is left.
 fn finish(cursor: &Cursor<'_>) -> Result<(), Stop>
-    ensures { (text : List ℕ) (tree : Tree) → GivesEnd tree (ahead text cursor.now) result (finished tree (ahead text cursor.now)) }
+    ensures end { (text : List ℕ) (tree : Tree) → GivesEnd tree (ahead text cursor.now) result (finished tree (ahead text cursor.now)) }
+    ensures memory { IfErr result (λ stop. ¬ (stop ≡ Stop.NoMemory)) }
 {
     match cursor.first() {
         Some(_) => Err(Stop::At(ReadCause::Syntax)),
@@ -41,7 +44,8 @@ fn finish(cursor: &Cursor<'_>) -> Result<(), Stop>
 
 /// The end of a clause or a goal.
 fn read_end(cursor: &mut Cursor<'_>, extent: Extent) -> Result<(), Stop>
-    ensures { (text : List ℕ) (tree : Tree) → GivesEnd tree (ahead text cursor.new) result (ends_of extent tree (ahead text cursor.old)) }
+    ensures end { (text : List ℕ) (tree : Tree) → GivesEnd tree (ahead text cursor.new) result (ends_of extent tree (ahead text cursor.old)) }
+    ensures memory { IfErr result (λ stop. ¬ (stop ≡ Stop.NoMemory)) }
 {
     let Some(word) = cursor.first() else {
         return match extent {
@@ -65,7 +69,9 @@ fn read_all(
 ) -> Result<(), Stop>
     requires known { AreKnown (table_of source.now.ops.now) source.now.text.now cursor.old }
     requires none { steps.old.items ≡ [] }
-    ensures { GivesWhole source.now.text.now steps.new.items (ahead source.now.text.now cursor.new) result (reading_of extent (table_of source.now.ops.now) (ahead source.now.text.now cursor.old)) }
+    ensures whole { GivesWhole source.now.text.now steps.new.items (ahead source.now.text.now cursor.new) result (reading_of extent (table_of source.now.ops.now) (ahead source.now.text.now cursor.old)) }
+    ensures memory { result ≡ Err Stop.NoMemory → 0 < length cursor.old }
+    ensures some { OnOk result (0 < length cursor.old) }
 {
     read(source, cursor, steps, MOST_PRIORITY, MOST_LEVELS)?;
     read_end(cursor, extent)
@@ -84,7 +90,9 @@ fn next_byte(cursor: &Cursor<'_>, end: usize) -> usize
 /// The steps of the term that all words are.
 fn steps_of(source: &Source<'_>, words: &[Word], extent: Extent) -> Result<Vec<Step>, ReadFault>
     requires { AreKnown (table_of source.now.ops.now) source.now.text.now words.now }
-    ensures { TellsSteps (λ v. v.items) source.now.text.now result (reading_of extent (table_of source.now.ops.now) (ahead source.now.text.now words.now)) }
+    ensures tells { TellsSteps (λ v. v.items) source.now.text.now result (reading_of extent (table_of source.now.ops.now) (ahead source.now.text.now words.now)) }
+    ensures memory { result ≡ Err ReadFault.NoMemory → 0 < length words.now }
+    ensures some { OnOk result (0 < length words.now) }
 {
     let mut steps = Vec::new(source.alloc);
     let mut cursor = Cursor::new(words);
@@ -144,6 +152,9 @@ pub fn read_words(
     requires { AreKnown (table_of source.now.ops.now) source.now.text.now words.now }
     ensures read { TellsWhole atoms.new source.now.text.now (ahead source.now.text.now words.now) result (reading_of extent (table_of source.now.ops.now) (ahead source.now.text.now words.now)) }
     ensures grows { Grows atoms.old atoms.new }
+    ensures names { IfOk result (λ term.
+        AddsOnly (λ name. mentions name (term_read atoms.new term)) atoms.old atoms.new) }
+    ensures memory { result ≡ Err ReadFault.NoMemory → 0 < length words.now }
 {
     let steps = steps_of(source, words, extent)?;
     let (cells, root, variables) = build(source.alloc, source.text, &steps, atoms)?;

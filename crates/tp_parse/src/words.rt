@@ -1,12 +1,12 @@
 //! The tokens of a clause or a goal, with the operators of their names.
 
-ghost use Rattle.std.specs.Prelude.{◌≡◌, ℕ, ◌&&◌, chars, IfOk, IfSome, IsTrue, Option, Some, None};
+ghost use Rattle.std.specs.Prelude.{◌≡◌, ℕ, ◌&&◌, chars, IfOk, IfSome, IsTrue, Option, Some, None, Err, OnSome, ◌<◌, length};
 ghost use Rattle.std.specs.Str.{IsCharBoundary};
 ghost use Rattle.tp_lex.specs.Form.{has_name};
 ghost use Rattle.tp_lex.specs.Next.{IsTokenOf, StandsBehind, token_name};
 ghost use Rattle.tp_lex.specs.Tokens.{Reach, stands_directly, stops_at, tokens_from};
 ghost use Rattle.tp_parse.specs.Ops.{table_of};
-ghost use Rattle.tp_parse.specs.Texts.{refused_token};
+ghost use Rattle.tp_parse.specs.Texts.{HasToken, refused_token};
 ghost use Rattle.tp_parse.specs.Words.{AreKnown, IsKnown, TellsNext, TellsWords, infix_by, prefix_by, reach_of};
 
 use crate::fault::{ReadCause, ReadFault};
@@ -140,6 +140,8 @@ fn refused_token(fault: LexFault) -> ReadFault
 fn next_word(source: &Source<'_>, at: usize, end: Option<usize>) -> Result<Option<Word>, ReadFault>
     requires { IsCharBoundary source.now.text.now at }
     ensures tokens { (reach : Reach) → TellsNext reach source.now.text.now (tokens_from reach source.now.text.now) result (tokens_from reach source.now.text.now at end) }
+    ensures memory { result ≡ Err ReadFault.NoMemory → HasToken source.now.text.now at }
+    ensures there { IfOk result (λ found. OnSome found (HasToken source.now.text.now at)) }
     ensures place { IfOk result (λ found. IfSome found (λ w. StandsBehind source.now.text.now at w.token)) }
     ensures known { IfOk result (λ found. IfSome found (IsKnown (table_of source.now.ops.now) source.now.text.now)) }
 {
@@ -162,6 +164,8 @@ pub fn take_words(source: &Source<'_>, at: usize, extent: Extent) -> Result<Vec<
     requires { IsCharBoundary source.now.text.now at }
     ensures tokens { TellsWords (λ v. v.items) source.now.text.now result (tokens_from (reach_of extent) source.now.text.now at None) }
     ensures known { IfOk result (λ v. AreKnown (table_of source.now.ops.now) source.now.text.now v.items) }
+    ensures memory { result ≡ Err ReadFault.NoMemory → HasToken source.now.text.now at }
+    ensures there { IfOk result (λ v. 0 < length v.items → HasToken source.now.text.now at) }
 {
     let mut words = Vec::new(source.alloc);
     let mut from = at;

@@ -4,7 +4,7 @@ use Rattle.tp_parse.specs.Ops.{table_of}
 use Rattle.tp_parse.specs.Reading.{reading, infix_parts, args}
 use Rattle.tp_parse.specs.Steps.{trees_of, top_of}
 use Rattle.tp_parse.specs.Words.{ahead}
-use Rattle.tp_parse.proofs.WordLemmas.{ahead-after, ahead-length}
+use Rattle.tp_parse.proofs.WordLemmas.{ahead-after, ahead-length, some-first}
 use Rattle.tp_parse.proofs.ReadLemmas.{going-after, going-step, going-same, going-items, named-has}
 use Rattle.tp_parse.proofs.LoopLemmas.{Fails-then, Fails-same, reading-zero, reading-step, read-then, read-some, primary-none, primary-at, primary-named, primary-simple, args-start, args-more, args-last, args-fails, args-end, arg-then, arg-fails, elements-start, elements-more, elements-last, elements-enough, elements-fails, elements-end, element-then, element-fails, parts-start, parts-more, parts-none, parts-fails, parts-end, part-none, part-some, prefixed-is, compound-read, row-enough, operand-read, part-read, part-two, infix-label, braced-read, named-kind}
 use Rattle.tp_parse.proofs.reader.+reader.Goals as goal
@@ -13,7 +13,7 @@ pub read-returns-then-levels-eq0-clause-gives : goal.read-returns-then-levels-eq
 read-returns-then-levels-eq0-clause-gives t c =
     let ops = table_of c.args.source.now.ops.now in
     let text = c.args.source.now.text.now in
-    Fails-same (ahead text c.args.cursor.now) _ _ _ (reading-zero ops c.args.levels c.args.bound (ahead text c.args.cursor.now) c.if-levels-eq0.true) (c.too_deep.ensures text)
+    Fails-same (ahead text c.args.cursor.now) _ _ _ (reading-zero ops c.args.levels c.args.bound (ahead text c.args.cursor.now) c.if-levels-eq0.true) (c.too_deep.ensures.fails text)
 
 pub read-returns-in_err-priority-clause-gives : goal.read-returns-in_err-priority-clause-gives
 read-returns-in_err-priority-clause-gives t c =
@@ -66,6 +66,7 @@ read_primary-returns-in_default-kind t c =
     record {
       gives = rw (primary-simple ops (reading ops c.args.levels) c.args.bound text c.args.cursor.now c.in-Some.word (sym c.first.ensures ∙ c.in-Some.is) d.not-Name d.not-Quoted d.not-Open d.not-OpenList d.not-OpenCurly) c.read_simple.ensures.gives;
       going = c.read_simple.ensures.going;
+      memory = λ _. some-first _ _ (sym c.first.ensures ∙ c.in-Some.is);
       shorter = c.read_simple.ensures.shorter;
     }
 
