@@ -1,25 +1,23 @@
 -- Bodies, place after place.
-use Rattle.std.proofs.Common.{◌≡◌, ℕ, zero, suc, ◌+◌, ◌<◌, ◌≤◌, nat_eq, Bool, true, false, ◌&&◌, List, [], ◌∷◌, ◌++◌, length, slice_get, get_or, Option, Some, None, option_map, IfSome, IsSome, refl, sym, ap, subst, ◌∙◌, arith, append_assoc, append-nil, length-append, if◌then◌else◌, codes, add-one, lit<}
+use Rattle.std.proofs.Common.{◌≡◌, ℕ, zero, suc, ◌+◌, ◌<◌, ◌≤◌, nat_eq, Bool, true, false, ◌&&◌, List, [], ◌∷◌, ◌++◌, length, slice_get, get_or, Option, Some, None, IsSome, refl, sym, ap, subst, ◌∙◌, arith, append_assoc, append-nil, length-append, if◌then◌else◌, codes, add-one, lit<}
 use borrow.Author.Count.{below_more}
 use Rattle.std.proofs.lemmas.Bool.{eqb-true}
 use Rattle.std.proofs.lemmas.List.{get_or_append_left}
-use Rattle.std.proofs.lemmas.Option.{slice_get_within}
 use Rattle.std.proofs.Math.Seq.{get_or-append_seam}
 use Rattle.tp_terms.specs.declared.cells.Cell.{Cell}
 use Rattle.tp_terms.specs.declared.cells.Cell.TheVariants as cell
 use Rattle.tp_terms.specs.declared.cells.Ref.{Ref}
 use Rattle.tp_terms.specs.declared.cells.AtomId.{AtomId}
 use Rattle.tp_terms.specs.declared.symbols.TheConstants.{CALL}
-use Rattle.tp_terms.specs.Term.{Name, Term, Terms, Var, Int, Atom, Comp, NoMore, More, comp}
-use Rattle.tp_terms.specs.Names.{IsTable}
+use Rattle.tp_terms.specs.Term.{Name, Term, Var, Int, Atom, Comp, NoMore, More}
 use Rattle.tp_terms.specs.Shown.{name_at, shows, shown_from, args_at, StandsBefore, IsNamed, AreNamed}
 use Rattle.tp_terms.proofs.ShownLemmas.{shows-cell, shows-append, shows-push, shown_from-append, AreNamed-append, AreNamed-push, AreNamed-cell}
 use Rattle.tp_terms.proofs.NameLemmas.{slice_get-append}
 use Rattle.tp_meaning.specs.Body.{body, joins_goals, pair_body}
-use Rattle.tp_meaning.proofs.Bodies.{body-pair, body-joined, body-compound}
+use Rattle.tp_meaning.proofs.Bodies.{body-pair, body-joined}
 use Rattle.tp_clauses.specs.Kinds.{joins}
-use Rattle.tp_clauses.specs.Standing.{HasNames, both, standing_of, standing_at, call_cell, no_cell, body_cells, AreReady, Adds}
-use Rattle.tp_clauses.specs.Bodies.{MakesBody, ShowsBody, IsConverted, IsBodyOf, TellsBody}
+use Rattle.tp_clauses.specs.Standing.{HasNames, both, standing_of, standing_at, no_cell, body_cells, AreReady, Adds}
+use Rattle.tp_clauses.specs.Bodies.{MakesBody, IsConverted, TellsBody}
 use Rattle.tp_clauses.specs.declared.body.Standing.{Standing}
 use Rattle.tp_clauses.specs.declared.body.Standing.TheVariants as standing
 use Rattle.tp_clauses.proofs.KindLemmas.{joins-named, call-named, call-within}

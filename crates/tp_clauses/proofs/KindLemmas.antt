@@ -1,5 +1,5 @@
 -- Atoms of a table of names, against the names of the start.
-use Rattle.std.proofs.Common.{◌≡◌, ℕ, ◌<◌, lit<, ◌||◌, ◌&&◌, nat_le, Bool, true, false, List, length, Option, Some, None, is_some, ℤ, pos, negsuc, slice_get, refl, ap, ◌∙◌, if◌then◌else◌}
+use Rattle.std.proofs.Common.{◌≡◌, ◌<◌, lit<, ◌||◌, ◌&&◌, nat_le, Bool, true, false, List, length, Option, Some, None, is_some, ℤ, pos, negsuc, slice_get, refl, ap, ◌∙◌, if◌then◌else◌}
 use Rattle.std.specs.Prelude.{codes}
 use Rattle.tp_terms.specs.declared.cells.AtomId.{AtomId}
 use Rattle.tp_terms.specs.declared.symbols.TheConstants.{CONJUNCTION, DISJUNCTION, IF_THEN, CALL, OP, LIST_CELL, EMPTY_LIST, NECK, QUERY, GRAMMAR, XFX, XFY, YFX, FY, FX}

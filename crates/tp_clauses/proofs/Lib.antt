@@ -5,7 +5,6 @@ pub mod BodyLemmas
 pub mod DirectiveLemmas
 pub mod PartsLemmas
 pub mod LoadLemmas
-pub mod ReservedLemmas
 pub mod OccursLemmas
 pub mod TermLemmas
 pub mod ReadingLemmas

@@ -1,5 +1,5 @@
 -- A text is read on: what stood and what remains is one model.
-use Rattle.std.proofs.Common.{◌≡◌, ℕ, zero, suc, ◌+◌, ◌<◌, ◌≤◌, List, [], ◌∷◌, ◌++◌, length, map, Option, Some, None, option_map, Result, Ok, Err, refl, sym, ap, subst, ◌∙◌, arith, append-nil, append_assoc}
+use Rattle.std.proofs.Common.{◌≡◌, ℕ, zero, suc, ◌+◌, ◌<◌, List, [], ◌∷◌, length, map, Option, Some, None, option_map, Result, Ok, Err, refl, sym, ap, subst, ◌∙◌, arith, append-nil}
 use Rattle.std.specs.Str.{IsCharBoundary}
 use Rattle.tp_terms.specs.declared.cells.Cell.{Cell}
 use Rattle.tp_terms.specs.declared.cells.Ref.{Ref}
@@ -9,13 +9,10 @@ use Rattle.tp_terms.specs.Shown.{shows, AreNamed}
 use Rattle.tp_terms.proofs.NameLemmas.{Grows-shows, Grows-length}
 use Rattle.tp_terms.proofs.ShownLemmas.{AreNamed-longer}
 use Rattle.tp_lex.specs.Next.{next}
-use Rattle.tp_lex.specs.declared.token.Token.{Token}
-use Rattle.tp_lex.specs.declared.token.LexFault.{LexFault}
 use Rattle.tp_parse.specs.Ops.{table_of}
 use Rattle.tp_parse.specs.Table.{Table, start_table}
 use Rattle.tp_parse.specs.Texts.{clause_of}
-use Rattle.tp_meaning.specs.Clauses.{Base}
-use Rattle.tp_clauses.specs.Model.{Model, Refusal, Rest, model_from, most_terms, by_read, by_token, refusal}
+use Rattle.tp_clauses.specs.Model.{Model, Refusal, model_from, most_terms, by_read, by_token}
 use Rattle.tp_clauses.specs.Contents.{base_of, clause_of as clause_at, clause_by}
 use Rattle.tp_clauses.specs.Parts.{IsParts, IsEmpty, contents_of}
 use Rattle.tp_clauses.specs.Told.{after, Steps, TellsStep, TellsParts, TellsEnd, Holds}

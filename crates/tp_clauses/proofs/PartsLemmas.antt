@@ -1,28 +1,25 @@
 -- One clause more behind the others.
-use Rattle.std.proofs.Common.{◌≡◌, ℕ, zero, suc, ◌+◌, ◌<◌, ◌≤◌, ◌^◌, nat_eq, Bool, true, false, ◌&&◌, List, [], ◌∷◌, ◌++◌, length, map, slice_get, get_or, Option, Some, None, option_map, IfSome, Result, Ok, Err, cond, refl, sym, ap, subst, ◌∙◌, arith, append_assoc, append-nil, length-append, if◌then◌else◌}
+use Rattle.std.proofs.Common.{◌≡◌, ℕ, zero, suc, ◌+◌, ◌<◌, nat_eq, Bool, true, false, ◌&&◌, List, [], ◌∷◌, ◌++◌, length, map, slice_get, Option, Some, None, option_map, IfSome, refl, sym, ap, subst, ◌∙◌, arith, length-append, if◌then◌else◌}
 use Rattle.std.specs.List.{All}
-use Rattle.std.proofs.lemmas.Bool.{eqb-true, eq-eqb, eqb-false}
+use Rattle.std.proofs.lemmas.Bool.{eqb-true, eqb-false}
 use Rattle.std.proofs.lemmas.List.{map-append, length-map}
-use Rattle.std.proofs.lemmas.List.Elements.{All-head, All-tail, All-push, All-weaker, All-nil}
+use Rattle.std.proofs.lemmas.List.Elements.{All-head, All-tail, All-push, All-weaker}
 use Rattle.tp_terms.specs.declared.cells.Cell.{Cell}
 use Rattle.tp_terms.specs.declared.cells.Cell.TheVariants as cell
 use Rattle.tp_terms.specs.declared.cells.Ref.{Ref}
 use Rattle.tp_terms.specs.declared.cells.AtomId.{AtomId}
-use Rattle.tp_terms.specs.Term.{Name, Term, Terms, occurs}
+use Rattle.tp_terms.specs.Term.{Name, occurs}
 use Rattle.tp_terms.specs.Shown.{shows, AreBuilt, AreNamed}
 use Rattle.tp_terms.proofs.ShownLemmas.{shows-append, AreNamed-append}
 use Rattle.tp_terms.proofs.NameLemmas.{slice_get-append}
-use Rattle.tp_meaning.specs.Clauses.{Clause}
-use Rattle.tp_clauses.specs.Contents.{Contents, IsBase, ViewFits, IsHead, AreBelow, base_of, clause_of, clause_by, is_of, is_of_by, places_from, places_of}
+use Rattle.tp_clauses.specs.Contents.{ViewFits, IsHead, AreBelow, clause_of, clause_by, is_of, is_of_by, places_from}
 use Rattle.tp_clauses.specs.Indexed.{ids_in, same_key}
-use Rattle.tp_clauses.specs.Kinds.{head_key, free_key, is_reserved_atom}
+use Rattle.tp_clauses.specs.Kinds.{key_of}
 use Rattle.tp_clauses.specs.Moved.{moved, moved_view, place_on}
-use Rattle.tp_clauses.specs.Parts.{contents_of, IsParts, AddsClause}
+use Rattle.tp_clauses.specs.Parts.{IsParts, AddsClause}
 use Rattle.tp_clauses.specs.declared.base.ClauseId.{ClauseId}
 use Rattle.tp_clauses.specs.declared.base.ClauseView.{ClauseView}
 use Rattle.tp_clauses.specs.declared.kind.Key.{Key}
-use Rattle.tp_clauses.specs.declared.fault.Cause.{Cause}
-use Rattle.tp_clauses.specs.declared.fault.Cause.TheVariants as cause
 use Rattle.tp_clauses.specs.declared.parts.Parts.{Parts}
 use Rattle.tp_clauses.proofs.MovedLemmas.{shows-moved, AreNamed-moved}
 
@@ -146,26 +143,21 @@ nat_eq-sym a b = go (nat_eq a b) refl (nat_eq b a) refl
     go true e false f = absurd (eqb-false b a f (sym (eqb-true a b e)))
     go false e true f = absurd (eqb-false a b e (sym (eqb-true b a f)))
 
-free_key_of : (a : AtomId) (k : ℕ) (key : Key) (name : AtomId) (arity : ℕ) → free_key a k ≡ Ok key → (nat_eq name.at a.at && nat_eq arity k) ≡ same_key key (record { name = name; arity = arity })
-free_key_of a k key name arity e = go (is_reserved_atom a k) e
-  where
-    go : (b : Bool) → ◌≡◌ {A = Result Key Cause} (if b then Err cause.Builtin else Ok (record { name = a; arity = k })) (Ok key) → (nat_eq name.at a.at && nat_eq arity k) ≡ same_key key (record { name = name; arity = arity })
-    go true h = absurd (cc)
-    go false h =
-        let same : ◌≡◌ {A = Key} (record { name = a; arity = k }) key = cc in
-        ap (λ b. b && nat_eq arity k) (nat_eq-sym name.at a.at) ∙ ap (λ b. nat_eq a.at name.at && b) (nat_eq-sym arity k) ∙ ap (λ (j : Key). same_key j (record { name = name; arity = arity })) same
+named : (a : AtomId) (k : ℕ) (key : Key) (name : AtomId) (arity : ℕ) → record { name = a; arity = k } ≡ key → (nat_eq name.at a.at && nat_eq arity k) ≡ same_key key (record { name = name; arity = arity })
+named a k key name arity same =
+    ap (λ b. b && nat_eq arity k) (nat_eq-sym name.at a.at) ∙ ap (λ b. nat_eq a.at name.at && b) (nat_eq-sym arity k) ∙ ap (λ (j : Key). same_key j (record { name = name; arity = arity })) same
 
 -- the key of a head is the one that its cell is of
-pub key_of : (o : Option Cell) (key : Key) (name : AtomId) (arity : ℕ) → head_key o ≡ Ok key → is_of_by name arity o ≡ same_key key (record { name = name; arity = arity })
-key_of None key name arity e = absurd (cc)
-key_of (Some (cell.Var v)) key name arity e = absurd (cc)
-key_of (Some (cell.Int z)) key name arity e = absurd (cc)
-key_of (Some (cell.Atom a)) key name arity e = free_key_of a 0 key name arity e
-key_of (Some (cell.Comp f first k)) key name arity e = free_key_of f k key name arity e
+pub key_is : (o : Option Cell) (key : Key) (name : AtomId) (arity : ℕ) → key_of o ≡ Some key → is_of_by name arity o ≡ same_key key (record { name = name; arity = arity })
+key_is None key name arity e = absurd (cc)
+key_is (Some (cell.Var v)) key name arity e = absurd (cc)
+key_is (Some (cell.Int z)) key name arity e = absurd (cc)
+key_is (Some (cell.Atom a)) key name arity e = named a 0 key name arity (cc)
+key_is (Some (cell.Comp f first k)) key name arity e = named f k key name arity (cc)
 
 -- ---- one clause more
 
-pub clause_added : (old new : Parts) (cells : List Cell) (v : ClauseView) (key : Key) → IsParts old → ViewFits cells v → head_key (slice_get cells v.head.at) ≡ Ok key
+pub clause_added : (old new : Parts) (cells : List Cell) (v : ClauseView) (key : Key) → IsParts old → ViewFits cells v → key_of (slice_get cells v.head.at) ≡ Some key
     → new.cells.items ≡ old.cells.items ++ map (moved (length old.cells.items)) cells
     → new.clauses.items ≡ old.clauses.items ++ moved_view (length old.cells.items) v ∷ []
     → ((k : Key) → ids_in new.index k ≡ (if same_key key k then ids_in old.index k ++ id_at (length old.clauses.items) ∷ [] else ids_in old.index k))
@@ -183,7 +175,7 @@ clause_added old new cells v key ok fits is added pushed indexed ops built =
         index = λ name arity.
             indexed (record { name = name; arity = arity })
             ∙ ap (λ l. if same_key key (record { name = name; arity = arity }) then l ++ id_at (length vs) ∷ [] else l) (ok.index name arity)
-            ∙ ap (λ b. if b then places_from name arity cs 0 vs ++ id_at (length vs) ∷ [] else places_from name arity cs 0 vs) (sym (key_of (slice_get cells v.head.at) key name arity is))
+            ∙ ap (λ b. if b then places_from name arity cs 0 vs ++ id_at (length vs) ∷ [] else places_from name arity cs 0 vs) (sym (key_is (slice_get cells v.head.at) key name arity is))
             ∙ ap (λ b. if b then places_from name arity cs 0 vs ++ id_at (length vs) ∷ [] else places_from name arity cs 0 vs) (sym (ap (is_of_by name arity) (slice_get-behind cs (moved (length cs)) cells v.head.at) ∙ is_of-moved name arity (length cs) (slice_get cells v.head.at)))
             ∙ ap (λ n. if is_of name arity (cs ++ ds) w then places_from name arity cs 0 vs ++ id_at n ∷ [] else places_from name arity cs 0 vs) (let z : length vs ≡ 0 + length vs = omega arith in z)
             ∙ ap (λ l. if is_of name arity (cs ++ ds) w then l ++ id_at (0 + length vs) ∷ [] else l) (sym (places_longer name arity cs ds 0 vs old_fit))

@@ -1,10 +1,9 @@
 -- What is read from a byte on: it ends at a character's start, and its variables are below their number.
-use Rattle.std.proofs.Common.{◌≡◌, ℕ, zero, suc, ◌+◌, ◌<◌, ◌≤◌, Bool, true, false, ◌||◌, List, [], ◌∷◌, ◌++◌, length, Option, Some, None, Result, Ok, Err, refl, sym, ap, subst, ◌∙◌, arith, if◌then◌else◌, nat_eq, append_assoc}
+use Rattle.std.proofs.Common.{◌≡◌, ℕ, zero, suc, ◌+◌, ◌<◌, ◌≤◌, Bool, true, false, ◌||◌, List, [], ◌∷◌, ◌++◌, length, Option, Some, None, Result, Ok, Err, refl, sym, ap, subst, ◌∙◌, arith, if◌then◌else◌, append_assoc}
 use Rattle.std.specs.Prelude.{codes}
 use Rattle.std.specs.Str.{IsUtf8, IsCharBoundary}
 use Rattle.std.proofs.lemmas.Bool.{eqb-true}
-use Rattle.tp_terms.specs.Term as term
-use Rattle.tp_terms.specs.Term.{Name, Term, Terms, names_eq, occurs, occurs_in}
+use Rattle.tp_terms.specs.Term.{Name, names_eq, occurs, occurs_in}
 use Rattle.tp_terms.specs.Shown.{shows}
 use Rattle.tp_lex.specs.Next.{next}
 use Rattle.tp_lex.specs.Tokens.{Lexed, Reach, ToEnd, lexed, with_token, stops_at, tokens_by_next, tokens_up_to, tokens_from, tokens}
@@ -14,8 +13,8 @@ use Rattle.tp_lex.proofs.TokenLemmas.{given}
 use Rattle.tp_parse.specs.Table.{Table}
 use Rattle.tp_parse.specs.Ops.{table_of}
 use Rattle.tp_parse.specs.Tree.{Tree, Variable, Integer, Atom, Compound, Trees, none, first_of}
-use Rattle.tp_parse.specs.Reading.{Read, Stop, clause_reading}
-use Rattle.tp_parse.specs.Numbers.{Numbers, no_numbers, number_in, number_of, known_number, new_number, numbered, all_numbered}
+use Rattle.tp_parse.specs.Reading.{Read, clause_reading}
+use Rattle.tp_parse.specs.Numbers.{Numbers, no_numbers, number_in, number_of, known_number, numbered, all_numbered}
 use Rattle.tp_parse.specs.Texts.{Found, clause_of, clause_in, clause_by, found, found_by, last_byte, is_ended, refused, refused_token}
 use Rattle.tp_parse.specs.Texts as read
 use Rattle.tp_parse.specs.Tells.{Tells}

@@ -1,5 +1,5 @@
 -- What a read term is, by its cells.
-use Rattle.std.proofs.Common.{◌≡◌, ℕ, zero, suc, ◌+◌, ◌<◌, ◌≤◌, nat_eq, Bool, true, false, ◌&&◌, ◌||◌, List, [], ◌∷◌, ◌++◌, length, slice_get, get_or, Option, Some, None, option_map, IfSome, Result, Ok, Err, refl, sym, ap, subst, ◌∙◌, arith, add-one, lit<, append-nil, length-append, if◌then◌else◌}
+use Rattle.std.proofs.Common.{◌≡◌, ℕ, zero, suc, ◌+◌, ◌<◌, nat_eq, Bool, true, false, ◌||◌, List, [], ◌∷◌, length, slice_get, Option, Some, None, Result, Ok, Err, refl, sym, ap, subst, ◌∙◌, arith, add-one, lit<, append-nil, length-append, if◌then◌else◌}
 use Rattle.std.specs.Prelude.{codes}
 use Rattle.std.proofs.lemmas.Bool.{eqb-true}
 use Rattle.tp_terms.specs.declared.cells.Cell.{Cell}
@@ -7,7 +7,7 @@ use Rattle.tp_terms.specs.declared.cells.Cell.TheVariants as cell
 use Rattle.tp_terms.specs.declared.cells.Ref.{Ref}
 use Rattle.tp_terms.specs.declared.cells.AtomId.{AtomId}
 use Rattle.tp_terms.specs.declared.symbols.TheConstants.{NECK, QUERY, GRAMMAR}
-use Rattle.tp_terms.specs.Term.{Name, Term, Terms, Var, Int, Atom, Comp, NoMore, More, names_eq, count_of, occurs, occurs_in}
+use Rattle.tp_terms.specs.Term.{Name, Term, Terms, Atom, Comp, NoMore, More, names_eq, count_of, occurs}
 use Rattle.tp_terms.specs.Shown.{name_at, shows, shown_from, args_at, StandsBefore, IsNamed, AreNamed, AreBuilt}
 use Rattle.tp_terms.proofs.ShownLemmas.{shows-cell, shows-append, AreNamed-cell}
 use Rattle.tp_terms.proofs.NameLemmas.{slice_get-append}
@@ -16,11 +16,11 @@ use Rattle.tp_parse.specs.Ops.{table_of}
 use Rattle.tp_parse.specs.declared.table.Ops.{Ops}
 use Rattle.tp_meaning.specs.Clauses.{Clause, Base}
 use Rattle.tp_meaning.specs.Body.{body}
-use Rattle.tp_clauses.specs.Reserved.{is_reserved}
+use Rattle.tp_meaning.specs.Goals.{is_reserved}
 use Rattle.tp_clauses.specs.Directives.{directive}
-use Rattle.tp_clauses.specs.Model.{Kind, Directive, OfClause, kind_of, unary_kind, binary_kind, with_head, headed, with_body, rule}
+use Rattle.tp_clauses.specs.Model.{Kind, Directive, OfClause, kind_of, with_head, with_body, rule}
 use Rattle.tp_clauses.specs.Contents.{IsHead, ViewFits, AreBelow, clause_of, clause_by, base_of}
-use Rattle.tp_clauses.specs.Kinds.{is_atom, read_as, unary_read, binary_read, head_key, free_key, is_reserved_atom, behind}
+use Rattle.tp_clauses.specs.Kinds.{is_atom, read_as, unary_read, binary_read, head_key, key_of, behind}
 use Rattle.tp_clauses.specs.Standing.{HasNames}
 use Rattle.tp_clauses.specs.Bodies.{TellsBody}
 use Rattle.tp_clauses.specs.Parts.{IsParts, AddsClause, contents_of}
@@ -35,7 +35,6 @@ use Rattle.tp_clauses.specs.declared.fault.Cause.TheVariants as cause
 use Rattle.tp_clauses.specs.declared.directive.TermFault.{TermFault}
 use Rattle.tp_clauses.specs.declared.directive.TermFault.TheVariants.{Refused, NoMemory}
 use Rattle.tp_clauses.proofs.KindLemmas.{is_atom-named, neck, query, grammar}
-use Rattle.tp_clauses.proofs.ReservedLemmas.{reserved-named}
 use Rattle.tp_clauses.proofs.OccursLemmas.{occurs-names, occurs-body}
 use Rattle.tp_clauses.proofs.DirectiveLemmas.{cell_at}
 
@@ -174,37 +173,34 @@ abbrev pub HeadIs : List Name → List Cell → Term → Result Key Cause → Ty
 HeadIs names cells t (Err c) = (vars : ℕ) (b : Option Term) → with_head t vars b ≡ Err c
 HeadIs names cells t (Ok key) = (vars : ℕ) (b : Option Term) → with_head t vars b ≡ Ok (clause_by t b vars)
 
-pub head_told : (names : List Name) (cells : List Cell) → HasNames names cells → AreBuilt cells → (at : ℕ) → at < length cells → HeadIs names cells (shows names cells at) (head_key (slice_get cells at))
+pub head_told : (names : List Name) (cells : List Cell) → HasNames names cells → AreBuilt cells → (at : ℕ) → at < length cells → HeadIs names cells (shows names cells at) (head_key names (slice_get cells at))
 head_told names cells h built at l =
     let c = cell_at cells at l in
-    subst (λ o. HeadIs names cells (shows names cells at) (head_key o)) (sym c.1)
-    (subst (λ t. HeadIs names cells t (head_key (Some c.0))) (sym (shows-cell names cells at c.0 c.1 (built at c.0 c.1))) (go c.0 (built at c.0 c.1) (AreNamed-cell (length names) cells at c.0 h.named c.1)))
+    subst (λ o. HeadIs names cells (shows names cells at) (head_key names o)) (sym c.1)
+    (subst (λ t. HeadIs names cells t (head_key names (Some c.0))) (sym (shows-cell names cells at c.0 c.1 (built at c.0 c.1))) (go c.0 (built at c.0 c.1) (AreNamed-cell (length names) cells at c.0 h.named c.1)))
   where
     count-args_at : (first n : ℕ) → count_of (args_at names cells first n) ≡ n
     count-args_at first zero = refl
     count-args_at first (suc n) = ap (λ m. 1 + m) (count-args_at (suc first) n) ∙ (let e : 1 + n ≡ suc n = omega arith in e)
 
-    chosen : AtomId → ℕ → Bool → Result Key Cause
-    chosen name n b = if b then Err cause.Builtin else Ok (record { name = name; arity = n })
+    whole : Name → Terms → ℕ → Option Term → Bool → Result Clause Cause
+    whole f ts vars d b = if b then Err cause.Builtin else Ok (record { name = f; args = ts; body = d; vars = vars })
 
-    whole : Name → Terms → Bool → ℕ → Option Term → Result Clause Cause
-    whole f ts b vars d = if b then Err cause.Builtin else Ok (record { name = f; args = ts; body = d; vars = vars })
+    lone : (name : AtomId) (b : Bool) → is_reserved (name_at names name.at) 0 ≡ b → HeadIs names cells (Atom (name_at names name.at)) (if b then Err cause.Builtin else Ok (record { name = name; arity = 0 }))
+    lone name true e = λ vars d. ap (whole (name_at names name.at) NoMore vars d) e
+    lone name false e = λ vars d. ap (whole (name_at names name.at) NoMore vars d) e
 
-    lone : (name : AtomId) (b : Bool) → is_reserved_atom name 0 ≡ b → name.at < length names → HeadIs names cells (Atom (name_at names name.at)) (if b then Err cause.Builtin else Ok (record { name = name; arity = 0 }))
-    lone name true e l = λ vars d. ap (λ c. let r : Result Clause Cause = (if c then Err cause.Builtin else Ok (record { name = name_at names name.at; args = NoMore; body = d; vars = vars })) in r) (reserved-named names h.table name 0 l ∙ e)
-    lone name false e l = λ vars d. ap (λ c. let r : Result Clause Cause = (if c then Err cause.Builtin else Ok (record { name = name_at names name.at; args = NoMore; body = d; vars = vars })) in r) (reserved-named names h.table name 0 l ∙ e)
+    many : (name : AtomId) (n : ℕ) (ts : Terms) (b : Bool) → is_reserved (name_at names name.at) n ≡ b → count_of ts ≡ n → HeadIs names cells (Comp (name_at names name.at) ts) (if b then Err cause.Builtin else Ok (record { name = name; arity = n }))
+    many name n ts true e k = λ vars d. ap (whole (name_at names name.at) ts vars d) (ap (is_reserved (name_at names name.at)) k ∙ e)
+    many name n ts false e k = λ vars d. ap (whole (name_at names name.at) ts vars d) (ap (is_reserved (name_at names name.at)) k ∙ e)
 
-    many : (name : AtomId) (n : ℕ) (ts : Terms) (b : Bool) → is_reserved_atom name n ≡ b → name.at < length names → count_of ts ≡ n → HeadIs names cells (Comp (name_at names name.at) ts) (if b then Err cause.Builtin else Ok (record { name = name; arity = n }))
-    many name n ts true e l k = λ vars d. ap (λ c. let r : Result Clause Cause = (if c then Err cause.Builtin else Ok (record { name = name_at names name.at; args = ts; body = d; vars = vars })) in r) (ap (is_reserved (name_at names name.at)) k ∙ reserved-named names h.table name n l ∙ e)
-    many name n ts false e l k = λ vars d. ap (λ c. let r : Result Clause Cause = (if c then Err cause.Builtin else Ok (record { name = name_at names name.at; args = ts; body = d; vars = vars })) in r) (ap (is_reserved (name_at names name.at)) k ∙ reserved-named names h.table name n l ∙ e)
-
-    go : (c : Cell) → StandsBefore at c → IsNamed (length names) c → HeadIs names cells (shown_from names cells c) (head_key (Some c))
+    go : (c : Cell) → StandsBefore at c → IsNamed (length names) c → HeadIs names cells (shown_from names cells c) (head_key names (Some c))
     go (cell.Var v) s n = λ vars b. refl
     go (cell.Int z) s n = λ vars b. refl
-    go (cell.Atom a) s n = lone a (is_reserved_atom a 0) refl n
-    go (cell.Comp name first count) s n = many name count (args_at names cells first.at count) (is_reserved_atom name count) refl n (count-args_at first.at count)
+    go (cell.Atom a) s n = lone a (is_reserved (name_at names a.at) 0) refl
+    go (cell.Comp name first count) s n = many name count (args_at names cells first.at count) (is_reserved (name_at names name.at) count) refl (count-args_at first.at count)
 
-pub head_named : (o : Option Cell) (key : Key) → head_key o ≡ Ok key → IsHead o
+pub head_named : (o : Option Cell) (key : Key) → key_of o ≡ Some key → IsHead o
 head_named None key e = absurd (cc)
 head_named (Some (cell.Var v)) key e = absurd (cc)
 head_named (Some (cell.Int z)) key e = absurd (cc)
@@ -224,20 +220,20 @@ clause_taken names old new cells v r a e n k = record {
 }
 
 -- a head alone
-pub fact_fits : (cells : List Cell) (head : Ref) (vars : ℕ) (key : Key) → head.at < length cells → AreBelow cells vars head → head_key (slice_get cells head.at) ≡ Ok key → ViewFits cells (record { head = head; body = None; vars = vars })
+pub fact_fits : (cells : List Cell) (head : Ref) (vars : ℕ) (key : Key) → head.at < length cells → AreBelow cells vars head → key_of (slice_get cells head.at) ≡ Some key → ViewFits cells (record { head = head; body = None; vars = vars })
 fact_fits cells head vars key l below e = record { head = l; named = head_named (slice_get cells head.at) key e; below = below; body = tt }
 
-pub fact_told : (names : List Name) (cells : List Cell) (head : Ref) (vars : ℕ) (key : Key) → HasNames names cells → AreBuilt cells → head.at < length cells → head_key (slice_get cells head.at) ≡ Ok key → with_head (shows names cells head.at) vars None ≡ Ok (clause_of names cells (record { head = head; body = None; vars = vars }))
+pub fact_told : (names : List Name) (cells : List Cell) (head : Ref) (vars : ℕ) (key : Key) → HasNames names cells → AreBuilt cells → head.at < length cells → head_key names (slice_get cells head.at) ≡ Ok key → with_head (shows names cells head.at) vars None ≡ Ok (clause_of names cells (record { head = head; body = None; vars = vars }))
 fact_told names cells head vars key h built l e = subst (HeadIs names cells (shows names cells head.at)) e (head_told names cells h built head.at l) vars None
 
-pub head_refused : (names : List Name) (cells : List Cell) (head : Ref) (c : Cause) → HasNames names cells → AreBuilt cells → head.at < length cells → head_key (slice_get cells head.at) ≡ Err c → (vars : ℕ) (b : Option Term) → with_head (shows names cells head.at) vars b ≡ Err c
+pub head_refused : (names : List Name) (cells : List Cell) (head : Ref) (c : Cause) → HasNames names cells → AreBuilt cells → head.at < length cells → head_key names (slice_get cells head.at) ≡ Err c → (vars : ℕ) (b : Option Term) → with_head (shows names cells head.at) vars b ≡ Err c
 head_refused names cells head c h built l e = subst (HeadIs names cells (shows names cells head.at)) e (head_told names cells h built head.at l)
 
 pub refused_rule : (head : Term) (t : Term) (vars : ℕ) (c : Cause) → with_head head vars (body t) ≡ Err c → rule head t vars ≡ Err c
 refused_rule head t vars c e = ap (with_body (body t)) e
 
 -- a head and a body, whose cells may stand behind the others
-module _ (old new : List Cell) (head term : Ref) (vars : ℕ) (key : Key) (built : AreBuilt old) (lh : head.at < length old) (lt : term.at < length old) (is : head_key (slice_get old head.at) ≡ Ok key) where
+module _ (old new : List Cell) (head term : Ref) (vars : ℕ) (key : Key) (built : AreBuilt old) (lh : head.at < length old) (lt : term.at < length old) (is : key_of (slice_get old head.at) ≡ Some key) (free : (names : List Name) → HasNames names old → head_key names (slice_get old head.at) ≡ Ok key) where
   abbrev view : Ref → ClauseView
   view place = record { head = head; body = Some place; vars = vars }
 
@@ -247,8 +243,8 @@ module _ (old new : List Cell) (head term : Ref) (vars : ℕ) (key : Key) (built
   shown_kept : (names : List Name) (found : Option Ref) → TellsBody old new term found → shows names new head.at ≡ shows names old head.at
   shown_kept names found t = ap (λ l. shows names l head.at) (t.adds).added ∙ shows-append names old (t.adds).more head.at lh
 
-  pub rule_key : (found : Option Ref) → TellsBody old new term found → head_key (slice_get new head.at) ≡ Ok key
-  rule_key found t = ap head_key (head_kept found t) ∙ is
+  pub rule_key : (found : Option Ref) → TellsBody old new term found → key_of (slice_get new head.at) ≡ Some key
+  rule_key found t = ap key_of (head_kept found t) ∙ is
 
   pub rule_fits : (names : List Name) → HasNames names old → AreBelow old vars head → AreBelow old vars term → (place : Ref) → TellsBody old new term (Some place) → ViewFits new (record { head = head; body = Some place; vars = vars })
   rule_fits names h bh bt place t = record {
@@ -266,14 +262,14 @@ module _ (old new : List Cell) (head term : Ref) (vars : ℕ) (key : Key) (built
   pub rule_told : (names : List Name) → HasNames names old → (place : Ref) → TellsBody old new term (Some place) → rule (shows names old head.at) (shows names old term.at) vars ≡ Ok (clause_of names new (record { head = head; body = Some place; vars = vars }))
   rule_told names h place t =
       let b = (t.shown names h).same in
-      ap (with_body (body (shows names old term.at))) (subst (HeadIs names old (shows names old head.at)) is (head_told names old h built head.at lh) vars (body (shows names old term.at)))
+      ap (with_body (body (shows names old term.at))) (subst (HeadIs names old (shows names old head.at)) (free names h) (head_told names old h built head.at lh) vars (body (shows names old term.at)))
       ∙ ap (λ o. with_body o (Ok (clause_by (shows names old head.at) o vars))) b
       ∙ ap (λ x. let r : Result Clause Cause = Ok (clause_by x (Some (shows names new place.at)) vars) in r) (sym (shown_kept names (Some place) t))
 
   pub rule_bodiless : (names : List Name) → HasNames names old → TellsBody old new term None → rule (shows names old head.at) (shows names old term.at) vars ≡ Err cause.Body
   rule_bodiless names h t =
       let b = (t.shown names h).same in
-      ap (with_body (body (shows names old term.at))) (subst (HeadIs names old (shows names old head.at)) is (head_told names old h built head.at lh) vars (body (shows names old term.at)))
+      ap (with_body (body (shows names old term.at))) (subst (HeadIs names old (shows names old head.at)) (free names h) (head_told names old h built head.at lh) vars (body (shows names old term.at)))
       ∙ ap (λ o. with_body o (Ok (clause_by (shows names old head.at) o vars))) b
 
 -- ---- directives that are taken

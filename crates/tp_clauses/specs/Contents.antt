@@ -1,10 +1,10 @@
 -- What a base keeps, and the clauses that it stands for.
-use Rattle.std.specs.Prelude.{◌≡◌, ℕ, zero, suc, Bool, false, nat_eq, ◌&&◌, List, [], ◌∷◌, map, length, Option, Some, None, option_map, slice_get, if◌then◌else◌, ◌<◌, ◌≤◌, All, IfSome, true}
+use Rattle.std.specs.Prelude.{◌≡◌, ℕ, suc, Bool, false, nat_eq, ◌&&◌, List, [], ◌∷◌, map, length, Option, Some, option_map, slice_get, if◌then◌else◌, ◌<◌, All, IfSome, true}
 use Rattle.tp_terms.specs.declared.cells.Cell.{Cell}
 use Rattle.tp_terms.specs.declared.cells.Cell.TheVariants as cell
 use Rattle.tp_terms.specs.declared.cells.Ref.{Ref}
 use Rattle.tp_terms.specs.declared.cells.AtomId.{AtomId}
-use Rattle.tp_terms.specs.Term.{Name, Term, Terms, Var, Int, Atom, Comp, NoMore, occurs}
+use Rattle.tp_terms.specs.Term.{Name, Term, Terms, Atom, Comp, NoMore, occurs}
 use Rattle.tp_terms.specs.Shown.{shows, AreBuilt}
 use Rattle.tp_parse.specs.Ops.{Entries}
 use Rattle.tp_meaning.specs.Clauses.{Clause, Base}

@@ -1,4 +1,3 @@
-pub mod Reserved
 pub mod Directives
 pub mod Model
 pub mod Contents

@@ -1,11 +1,10 @@
 -- How a term stands as a goal, and the cells of its body.
-use Rattle.std.specs.Prelude.{◌≡◌, ℕ, ◌+◌, ◌<◌, nat_eq, ◌&&◌, List, [], ◌∷◌, ◌++◌, length, slice_index_or, Option, Some, None, ℤ, pos, if◌then◌else◌}
+use Rattle.std.specs.Prelude.{◌≡◌, ℕ, ◌+◌, ◌<◌, nat_eq, ◌&&◌, List, [], ◌∷◌, ◌++◌, length, slice_index_or, pos, if◌then◌else◌}
 use Rattle.tp_terms.specs.declared.cells.Cell.{Cell}
 use Rattle.tp_terms.specs.declared.cells.Cell.TheVariants as cell
 use Rattle.tp_terms.specs.declared.cells.Ref.{Ref}
-use Rattle.tp_terms.specs.declared.cells.AtomId.{AtomId}
 use Rattle.tp_terms.specs.declared.symbols.TheConstants.{CALL}
-use Rattle.tp_terms.specs.Term.{Name, Term, Terms, Var, Int, Atom, Comp, NoMore, More}
+use Rattle.tp_terms.specs.Term.{Name, Term, Var, Int, Atom, Comp, NoMore, More}
 use Rattle.tp_terms.specs.Names.{IsTable}
 use Rattle.tp_terms.specs.Shown.{StandsBefore, AreNamed}
 use Rattle.tp_meaning.specs.Body.{joins_goals}

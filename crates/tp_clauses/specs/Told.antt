@@ -1,12 +1,12 @@
 -- What taking a read term answers, against the definition.
-use Rattle.std.specs.Prelude.{◌≡◌, ℕ, ◌+◌, ◌<◌, Bool, nat_eq, nat_le, ◌&&◌, ◌||◌, List, [], ◌∷◌, ◌++◌, length, Option, Some, None, Result, Ok, Err, ℤ, pos, negsuc, if◌then◌else◌, false}
+use Rattle.std.specs.Prelude.{◌≡◌, ℕ, ◌+◌, Bool, nat_eq, nat_le, ◌&&◌, ◌||◌, List, [], ◌∷◌, ◌++◌, length, Option, Some, None, Result, Ok, Err, ℤ, pos, negsuc, if◌then◌else◌, false}
 use Rattle.tp_terms.specs.declared.cells.Cell.{Cell}
 use Rattle.tp_terms.specs.declared.cells.Cell.TheVariants as cell
 use Rattle.tp_terms.specs.declared.cells.Ref.{Ref}
 use Rattle.tp_terms.specs.declared.cells.AtomId.{AtomId}
 use Rattle.tp_terms.specs.declared.symbols.TheConstants.{OP, XFX, XFY, YFX, FY, FX, LIST_CELL, EMPTY_LIST}
 use Rattle.std.specs.Str.{IsCharBoundary}
-use Rattle.tp_terms.specs.Term.{Name, Term, Int, Atom}
+use Rattle.tp_terms.specs.Term.{Name}
 use Rattle.tp_terms.specs.Shown.{AreNamed}
 use Rattle.tp_lex.specs.declared.token.Token.{Token}
 use Rattle.tp_lex.specs.declared.token.LexFault.{LexFault}
@@ -14,9 +14,9 @@ use Rattle.tp_parse.specs.Ops.{table_of}
 use Rattle.tp_parse.specs.Texts.{clause_of}
 use Rattle.tp_parse.specs.Table.{Table}
 use Rattle.tp_parse.specs.declared.table.OpFault.{OpFault}
-use Rattle.tp_meaning.specs.Clauses.{Clause, Base}
+use Rattle.tp_meaning.specs.Clauses.{Base}
 use Rattle.tp_clauses.specs.Kinds.{is_atom}
-use Rattle.tp_clauses.specs.Directives.{add_each, add_names, op_names}
+use Rattle.tp_clauses.specs.Directives.{add_each}
 use Rattle.tp_clauses.specs.Model.{Kind, Directive, OfClause, Model, Refusal, Rest, by_read, by_token, refusal}
 use Rattle.tp_clauses.specs.Contents.{base_of}
 use Rattle.tp_clauses.specs.Parts.{IsParts, contents_of}

@@ -10,7 +10,6 @@ mod index;
 mod kind;
 mod load;
 mod parts;
-mod reserved;
 #[cfg(test)]
 mod tests;
 

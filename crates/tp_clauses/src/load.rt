@@ -1,6 +1,6 @@
 //! The clauses of a text, one read term after another.
 
-ghost use Rattle.std.specs.Prelude.{◌≡◌, ◌<◌, ◌≤◌, ◌+◌, List, length, slice_get, Ok, IfOk};
+ghost use Rattle.std.specs.Prelude.{◌≡◌, ◌<◌, ◌≤◌, ◌+◌, List, length, slice_get, Ok, Some, IfOk};
 ghost use Rattle.std.specs.Str.{IsCharBoundary};
 ghost use Rattle.tp_terms.specs.Term.{Name};
 ghost use Rattle.tp_terms.specs.Names.{Grows, IsTable};
@@ -11,7 +11,7 @@ ghost use Rattle.tp_parse.specs.Table.{start_table};
 ghost use Rattle.tp_parse.specs.Tells.{Tells};
 ghost use Rattle.tp_parse.specs.Texts.{Found};
 ghost use Rattle.tp_clauses.specs.Contents.{AreBelow};
-ghost use Rattle.tp_clauses.specs.Kinds.{head_key};
+ghost use Rattle.tp_clauses.specs.Kinds.{head_key, key_of};
 ghost use Rattle.tp_clauses.specs.Model.{OfClause, by_token, cause_of, kind_of, model_from, most_terms, rule, with_head};
 ghost use Rattle.tp_clauses.specs.Parts.{IsParts};
 ghost use Rattle.tp_clauses.specs.Standing.{HasNames, IsNameable};
@@ -256,7 +256,9 @@ fn take_body(
     requires head { head.at < length cells.old.items }
     requires body { body.at < length cells.old.items }
     requires built { AreBuilt cells.old.items }
-    requires key { head_key (slice_get cells.old.items head.at) ≡ Ok key }
+    requires key { key_of (slice_get cells.old.items head.at) ≡ Some key }
+    requires free { (names : List Name) → HasNames names cells.old.items →
+        head_key names (slice_get cells.old.items head.at) ≡ Ok key }
     requires nameable { IsNameable cells.old.items }
     requires head_below { AreBelow cells.old.items vars head }
     requires body_below { AreBelow cells.old.items vars body }

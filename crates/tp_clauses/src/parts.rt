@@ -1,10 +1,10 @@
 //! What a base is made of.
 
-ghost use Rattle.std.specs.Prelude.{◌≡◌, ◌<◌, ◌+◌, ◌^◌, [], length, slice_get, Ok, IfOk, IfSome, OnOk};
+ghost use Rattle.std.specs.Prelude.{◌≡◌, ◌<◌, ◌+◌, ◌^◌, [], length, slice_get, Some, IfOk, IfSome, OnOk};
 ghost use Rattle.tp_parse.specs.Ops.{table_of};
 ghost use Rattle.tp_parse.specs.Table.{start_table};
 ghost use Rattle.tp_clauses.specs.Contents.{ViewFits};
-ghost use Rattle.tp_clauses.specs.Kinds.{head_key};
+ghost use Rattle.tp_clauses.specs.Kinds.{key_of};
 ghost use Rattle.tp_clauses.specs.Moved.{moved_view, place_on};
 ghost use Rattle.tp_clauses.specs.Parts.{AddsClause, IsEmpty, IsParts};
 
@@ -81,7 +81,7 @@ pub fn add_clause(
 ) -> Result<(), NoMemory>
     requires parts { IsParts parts.old }
     requires fits { ViewFits cells.now.items view }
-    requires key { head_key (slice_get cells.now.items (view.head).at) ≡ Ok key }
+    requires key { key_of (slice_get cells.now.items (view.head).at) ≡ Some key }
     ensures { OnOk result (AddsClause parts.old parts.new cells.now.items view) }
 {
     let by = append(&mut parts.cells, cells)?;

@@ -1,4 +1,4 @@
-use Rattle.std.proofs.Common.{ap, ◌∙◌, sym, subst, arith, length}
+use Rattle.std.proofs.Common.{subst, arith}
 use Rattle.tp_clauses.specs.Bodies.{MakesBody}
 use Rattle.tp_clauses.proofs.BodyLemmas.{converting_none, converting_more, converted}
 use Rattle.tp_clauses.proofs.body.convert.Goals as goal

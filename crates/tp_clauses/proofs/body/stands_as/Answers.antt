@@ -1,4 +1,4 @@
-use Rattle.std.proofs.Common.{ap, ◌∙◌, sym}
+use Rattle.std.proofs.Common.{ap, ◌∙◌}
 use Rattle.tp_clauses.specs.Standing.{standing_at}
 use Rattle.tp_clauses.proofs.BodyLemmas.{known_more}
 use Rattle.tp_clauses.proofs.body.stands_as.Goals as goal

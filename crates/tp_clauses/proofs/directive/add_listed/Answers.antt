@@ -1,4 +1,4 @@
-use Rattle.std.proofs.Common.{◌≡◌, ap, ◌∙◌, sym, subst, arith, rules, w64, Some, Err}
+use Rattle.std.proofs.Common.{ap, ◌∙◌, sym, subst, arith, rules, w64, Err}
 use Rattle.std.proofs.lemmas.Result.{err_from_is_err_and}
 use mir.Val.{SFits}
 use Rattle.tp_parse.specs.Table.{add_op}

@@ -1,4 +1,4 @@
-use Rattle.std.proofs.Common.{◌≡◌, ap, ◌∙◌, sym, subst, arith, Some}
+use Rattle.std.proofs.Common.{sym, subst}
 use Rattle.tp_terms.specs.Shown.{shows}
 use Rattle.tp_parse.specs.Ops.{table_of}
 use Rattle.tp_clauses.specs.Told.{TellsDirective}

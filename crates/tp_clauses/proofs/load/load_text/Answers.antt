@@ -1,4 +1,4 @@
-use Rattle.std.proofs.Common.{ap, ◌∙◌, sym, subst, refl, arith, ◌<◌, Err}
+use Rattle.std.proofs.Common.{sym, subst, refl, arith, ◌<◌, Err}
 use Rattle.std.proofs.lemmas.Str.{IsCharBoundary-start}
 use Rattle.tp_terms.proofs.NameLemmas.{Grows-same, Grows-trans}
 use Rattle.tp_clauses.proofs.LoadLemmas.{most, loading_start, loading_more, loading_none, loading_err, ended_ok, ended_err}

@@ -1,4 +1,3 @@
-use Rattle.std.proofs.Common.{ap, ◌∙◌, sym, subst}
 use Rattle.tp_parse.specs.Ops.{table_of}
 use Rattle.tp_clauses.proofs.LoadLemmas.{named-grows}
 use Rattle.tp_clauses.proofs.ReadingLemmas.{reads_below, read_steps, read_refused}

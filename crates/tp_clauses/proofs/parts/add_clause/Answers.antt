@@ -1,4 +1,4 @@
-use Rattle.std.proofs.Common.{◌≡◌, ◌++◌, ◌∷◌, [], length, ap, ◌∙◌, sym, arith, refl, if◌then◌else◌}
+use Rattle.std.proofs.Common.{◌≡◌, ◌++◌, ◌∷◌, [], length, ap, ◌∙◌, arith, refl, if◌then◌else◌}
 use Rattle.tp_clauses.specs.Indexed.{ids_in, same_key}
 use Rattle.tp_clauses.specs.Moved.{moved_view}
 use Rattle.tp_clauses.proofs.PartsLemmas.{clause_added, id_at}
