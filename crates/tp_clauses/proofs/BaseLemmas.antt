@@ -7,7 +7,8 @@ use Rattle.std.proofs.lemmas.Str.{IsUtf8-from_is_utf8, is_utf8-from_IsUtf8}
 use Rattle.tp_parse.specs.Ops.{table_of}
 use Rattle.tp_clauses.specs.Parts.{contents_of}
 use Rattle.tp_clauses.specs.Told.{Holds, TellsParts}
-use Rattle.tp_clauses.specs.Loaded.{Has, Tells}
+use Rattle.tp_clauses.proofs.LoadLemmas.{fault_same}
+use Rattle.tp_clauses.specs.Loaded.{AsksMemory, Has, Tells}
 use Rattle.tp_clauses.specs.declared.parts.Parts.{Parts}
 use Rattle.tp_clauses.specs.declared.fault.LoadFault.{LoadFault}
 use Rattle.tp_clauses.specs.declared.fault.LoadFault.TheVariants.{Refused, NoMemory}
@@ -247,3 +248,7 @@ base_told names bytes text p e u h =
 pub fault_told : (names : List Name) (bytes text : List ℕ) (fault : LoadFault) → text ≡ bytes → IsUtf8 bytes → TellsParts names (Err fault) (model_from most_terms 1 text start_table 0) → Tells names (Err fault) (model bytes)
 fault_told names bytes text (Refused clause byte c) e u h = model_utf8 bytes text e u ∙ h
 fault_told names bytes text NoMemory e u h = tt
+
+-- want of memory for a text that is UTF-8
+pub memory_told : (A B : Type 0) (bytes text : List ℕ) (fault : LoadFault) → text ≡ bytes → IsUtf8 bytes → (◌≡◌ {A = Result A LoadFault} (Err fault) (Err NoMemory) → AsksMemory text) → ◌≡◌ {A = Result B LoadFault} (Err fault) (Err NoMemory) → (is_utf8 bytes ≡ true) × AsksMemory bytes
+memory_told A B bytes text fault e u asks w = (is_utf8-from_IsUtf8 bytes u, subst AsksMemory e (asks (fault_same B A fault NoMemory w)))

@@ -1,5 +1,5 @@
 -- What a read term is, by its cells.
-use Rattle.std.proofs.Common.{◌≡◌, ℕ, zero, suc, ◌+◌, ◌<◌, nat_eq, Bool, true, false, ◌||◌, List, [], ◌∷◌, length, slice_get, Option, Some, None, Result, Ok, Err, refl, sym, ap, subst, ◌∙◌, arith, add-one, lit<, append-nil, length-append, if◌then◌else◌}
+use Rattle.std.proofs.Common.{ℤ, ◌≡◌, ℕ, zero, suc, ◌+◌, ◌<◌, nat_eq, Bool, true, false, ◌||◌, List, [], ◌∷◌, length, slice_get, Option, Some, None, Result, Ok, Err, refl, sym, ap, subst, ◌∙◌, arith, add-one, lit<, append-nil, length-append, if◌then◌else◌}
 use Rattle.std.specs.Prelude.{codes}
 use Rattle.std.proofs.lemmas.Bool.{eqb-true}
 use Rattle.tp_terms.specs.declared.cells.Cell.{Cell}
@@ -271,6 +271,11 @@ module _ (old new : List Cell) (head term : Ref) (vars : ℕ) (key : Key) (built
       let b = (t.shown names h).same in
       ap (with_body (body (shows names old term.at))) (subst (HeadIs names old (shows names old head.at)) (free names h) (head_told names old h built head.at lh) vars (body (shows names old term.at)))
       ∙ ap (λ o. with_body o (Ok (clause_by (shows names old head.at) o vars))) b
+
+  pub rule_integer : (names : List Name) → HasNames names old → (n : ℤ) → slice_get old term.at ≡ Some (cell.Int n) → rule (shows names old head.at) (shows names old term.at) vars ≡ Err cause.Body
+  rule_integer names h n e =
+      ap (λ t. rule (shows names old head.at) t vars) (shows-cell names old term.at (cell.Int n) e tt)
+      ∙ ap (with_body None) (subst (HeadIs names old (shows names old head.at)) (free names h) (head_told names old h built head.at lh) vars None)
 
 -- ---- directives that are taken
 

@@ -1,6 +1,7 @@
 //! The clauses of a text, one read term after another.
 
-ghost use Rattle.std.specs.Prelude.{◌≡◌, ◌<◌, ◌≤◌, ◌+◌, List, length, slice_get, Ok, Some, IfOk};
+ghost use Rattle.std.specs.Prelude.{◌≡◌, ◌<◌, ◌≤◌, ◌+◌, List, length, slice_get, true, Ok, Err, Some, IfOk};
+ghost use Rattle.std.specs.Result.{is_ok};
 ghost use Rattle.std.specs.Str.{IsCharBoundary};
 ghost use Rattle.tp_terms.specs.Term.{Name};
 ghost use Rattle.tp_terms.specs.Names.{Grows, IsTable};
@@ -11,11 +12,12 @@ ghost use Rattle.tp_parse.specs.Table.{start_table};
 ghost use Rattle.tp_parse.specs.Tells.{Tells};
 ghost use Rattle.tp_parse.specs.Texts.{Found};
 ghost use Rattle.tp_clauses.specs.Contents.{AreBelow};
-ghost use Rattle.tp_clauses.specs.Kinds.{head_key, key_of};
+ghost use Rattle.tp_clauses.specs.Kinds.{head_key, key_of, read_as};
+ghost use Rattle.tp_clauses.specs.Loaded.{AsksMemory};
 ghost use Rattle.tp_clauses.specs.Model.{OfClause, by_token, cause_of, kind_of, model_from, most_terms, rule, with_head};
 ghost use Rattle.tp_clauses.specs.Parts.{IsParts};
 ghost use Rattle.tp_clauses.specs.Standing.{HasNames, IsNameable};
-ghost use Rattle.tp_clauses.specs.Told.{TellsEnd, TellsParts, TellsRead, TellsStep, TellsTerm, outcome};
+ghost use Rattle.tp_clauses.specs.Told.{IsNoInteger, MayDefine, MayTake, TellsBegin, TellsEnd, TellsToken, TellsParts, TellsRead, TellsStep, TellsTerm, outcome};
 
 use crate::base::ClauseView;
 use crate::body::body_of;
@@ -24,10 +26,10 @@ use crate::fault::{Cause, LoadFault};
 use crate::kind::{Key, ReadKind, head_key, kind_of};
 use crate::parts::{Parts, add_clause, empty};
 use std::alloc::Global;
-use tp_lex::{LexFault, next_token};
+use tp_lex::{LexFault, Token, next_token};
 use tp_parse::{ReadCause, ReadFault, ReadTerm, read_clause};
 use tp_terms::symbols::INF;
-use tp_terms::{Atoms, Cells, NoMemory, Ref};
+use tp_terms::{Atoms, Cell, Cells, NoMemory, Ref};
 
 /// The most read terms of a text, directives counted.
 const MOST_TERMS: u64 = 1_000_000;
@@ -48,10 +50,11 @@ pub fn load_text(alloc: Global, text: &str, atoms: &mut Atoms) -> Result<Parts, 
     ensures model { TellsParts atoms.new result (model_from most_terms 1 text.now start_table 0) }
     ensures parts { IfOk result IsParts }
     ensures grows { Grows atoms.old atoms.new }
+    ensures memory { result ≡ Err LoadFault.NoMemory → AsksMemory text.now }
 {
-    let mut parts = match empty(alloc) {
+    let mut parts = match begin(alloc, text) {
         Ok(parts) => parts,
-        Err(NoMemory) => return Err(LoadFault::NoMemory),
+        Err(fault) => return Err(fault),
     };
     let mut at = 0;
     'terms: for before in 0..MOST_TERMS {
@@ -67,14 +70,38 @@ pub fn load_text(alloc: Global, text: &str, atoms: &mut Atoms) -> Result<Parts, 
     }
 }
 
+/// No clause yet, where the first token isn't refused.
+fn begin(alloc: Global, text: &str) -> Result<Parts, LoadFault>
+    ensures { TellsBegin result (next text.now 0) }
+{
+    match token_at(text, 0, 1) {
+        Ok(_) => match empty(alloc) {
+            Ok(parts) => Ok(parts),
+            Err(NoMemory) => Err(LoadFault::NoMemory),
+        },
+        Err(fault) => Err(fault),
+    }
+}
+
 /// Sees that no further read term begins.
 fn end_of(text: &str, at: usize, number: u64) -> Result<(), LoadFault>
     requires { IsCharBoundary text.now at }
     ensures { TellsEnd number result (next text.now at) }
 {
-    match next_token(text, at) {
+    match token_at(text, at, number) {
         Ok(None) => Ok(()),
         Ok(Some(token)) => Err(refused(number, token.from, Cause::Many)),
+        Err(fault) => Err(fault),
+    }
+}
+
+/// The next token from a byte on, where the read term of this number may begin.
+fn token_at(text: &str, at: usize, number: u64) -> Result<Option<Token>, LoadFault>
+    requires { IsCharBoundary text.now at }
+    ensures { TellsToken number result (next text.now at) }
+{
+    match next_token(text, at) {
+        Ok(found) => Ok(found),
         Err(LexFault::BadToken(byte)) => Err(refused(number, byte, Cause::Token)),
         Err(LexFault::NumberRange(byte)) => Err(refused(number, byte, Cause::Number)),
         Err(LexFault::Unfinished(byte)) => Err(refused(number, byte, Cause::Unfinished)),
@@ -106,6 +133,7 @@ fn read_next(
     requires known { AreNamed (length atoms.old) parts.old.cells.items }
     ensures read { TellsStep atoms.new parts.old parts.new text.now at number result }
     ensures grows { Grows atoms.old atoms.new }
+    ensures memory { result ≡ Err LoadFault.NoMemory → is_ok (next text.now at) ≡ true }
 {
     match read_clause(alloc, text, at, &parts.ops, atoms) {
         Ok(None) => Ok(None),
@@ -177,7 +205,9 @@ fn take_term(
     requires built { AreBuilt cells.old.items }
     requires below { AreBelow cells.old.items vars root }
     requires known { AreNamed (length atoms.now) parts.old.cells.items }
-    ensures { TellsTerm atoms.now parts.old parts.new result (outcome (table_of parts.old.ops) (kind_of (table_of parts.old.ops) (shows atoms.now cells.old.items root.at) vars)) }
+    ensures told { TellsTerm atoms.now parts.old parts.new result (outcome (table_of parts.old.ops) (kind_of (table_of parts.old.ops) (shows atoms.now cells.old.items root.at) vars)) }
+    ensures memory { result ≡ Err TermFault.NoMemory →
+        MayTake cells.old.items root (read_as (slice_get cells.old.items root.at)) }
 {
     match kind_of(cells, root) {
         ReadKind::Directive { goal } => run(cells, goal, atoms, &mut parts.ops),
@@ -200,8 +230,9 @@ fn take_fact(
     requires within { head.at < length cells.now.items }
     requires built { AreBuilt cells.now.items }
     requires below { AreBelow cells.now.items vars head }
-    ensures { (names : List Name) → HasNames names cells.now.items → AreNamed (length names) parts.old.cells.items →
+    ensures told { (names : List Name) → HasNames names cells.now.items → AreNamed (length names) parts.old.cells.items →
         TellsTerm names parts.old parts.new result (outcome (table_of parts.old.ops) (OfClause (with_head (shows names cells.now.items head.at) vars None))) }
+    ensures memory { result ≡ Err TermFault.NoMemory → MayDefine cells.now.items head }
 {
     match head_key(cells, head) {
         Ok(key) => {
@@ -233,8 +264,10 @@ fn take_rule(
     requires nameable { IsNameable cells.old.items }
     requires head_below { AreBelow cells.old.items vars head }
     requires body_below { AreBelow cells.old.items vars body }
-    ensures { (names : List Name) → HasNames names cells.old.items → AreNamed (length names) parts.old.cells.items →
+    ensures told { (names : List Name) → HasNames names cells.old.items → AreNamed (length names) parts.old.cells.items →
         TellsTerm names parts.old parts.new result (outcome (table_of parts.old.ops) (OfClause (rule (shows names cells.old.items head.at) (shows names cells.old.items body.at) vars))) }
+    ensures memory { result ≡ Err TermFault.NoMemory →
+        MayDefine cells.old.items head × IsNoInteger (slice_get cells.old.items body.at) }
 {
     match head_key(cells, head) {
         Ok(key) => take_body(parts, alloc, cells, head, body, vars, key),
@@ -262,9 +295,13 @@ fn take_body(
     requires nameable { IsNameable cells.old.items }
     requires head_below { AreBelow cells.old.items vars head }
     requires body_below { AreBelow cells.old.items vars body }
-    ensures { (names : List Name) → HasNames names cells.old.items → AreNamed (length names) parts.old.cells.items →
+    ensures told { (names : List Name) → HasNames names cells.old.items → AreNamed (length names) parts.old.cells.items →
         TellsTerm names parts.old parts.new result (outcome (table_of parts.old.ops) (OfClause (rule (shows names cells.old.items head.at) (shows names cells.old.items body.at) vars))) }
+    ensures memory { result ≡ Err TermFault.NoMemory → IsNoInteger (slice_get cells.old.items body.at) }
 {
+    if let Cell::Int(_) = cells.get(body) {
+        return Err(TermFault::Refused(Cause::Body));
+    }
     match body_of(alloc, cells, body)? {
         Some(place) => {
             let view = ClauseView {
