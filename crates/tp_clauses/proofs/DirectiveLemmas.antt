@@ -14,7 +14,7 @@ use Rattle.tp_terms.proofs.ShownLemmas.{shows-cell, AreNamed-cell}
 use Rattle.tp_parse.specs.Table.{Table, add_op}
 use Rattle.tp_parse.specs.declared.table.OpFault.{OpFault}
 use Rattle.tp_clauses.specs.Kinds.{is_atom}
-use Rattle.tp_clauses.specs.Standing.{HasNames}
+use Rattle.tp_clauses.specs.Contents.{HasNames}
 use Rattle.tp_clauses.specs.Directives.{directive, listed_names, op_names, add_each, add_names, with_first, allows}
 use Rattle.tp_clauses.specs.declared.fault.Cause.TheVariants as cause
 use Rattle.tp_clauses.specs.declared.directive.TermFault.{TermFault}

@@ -1,7 +1,6 @@
 pub mod IndexLemmas
 pub mod MovedLemmas
 pub mod KindLemmas
-pub mod BodyLemmas
 pub mod DirectiveLemmas
 pub mod PartsLemmas
 pub mod LoadLemmas

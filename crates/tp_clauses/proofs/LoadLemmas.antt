@@ -36,7 +36,7 @@ pub record IsLoading (names : List Name) (text : List ℕ) (at before : ℕ) (p 
   pub all : left + before ≡ most_terms
   pub place : IsCharBoundary text at
   pub parts : IsParts p
-  pub named : AreNamed (length names) p.cells.items
+  pub named : AreNamed (length names) p.store.cells
   pub comes : Comes text (before + 1) (table_of p.ops) at
   pub model : after (base_of names (contents_of p)) (model_from left (before + 1) text (table_of p.ops) at) ≡ model_from most_terms 1 text start_table 0
 
@@ -53,7 +53,7 @@ loading_start names text p e b = record {
   named = subst (AreNamed (length names)) (sym e.cells) tt;
   comes = subst (λ t. Comes text (0 + 1) t 0) (sym e.ops) (subst (λ n. Comes text n start_table 0) (let z : 1 ≡ 0 + 1 = omega arith in z) Begin);
   model =
-      ap (λ vs. after (map (clause_at names p.cells.items) vs) (model_from most_terms (0 + 1) text (table_of p.ops) 0)) e.clauses
+      ap (λ vs. after (map (clause_at names p.store.cells) vs) (model_from most_terms (0 + 1) text (table_of p.ops) 0)) e.clauses
       ∙ after-none (model_from most_terms (0 + 1) text (table_of p.ops) 0)
       ∙ ap (λ t. model_from most_terms (0 + 1) text t 0) e.ops
       ∙ ap (λ n. model_from most_terms n text start_table 0) (let z : 0 + 1 ≡ 1 = omega arith in z);
@@ -94,7 +94,7 @@ module _ (old new : List Name) (text : List ℕ) (at before : ℕ) (p : Parts) (
     more,
     (
       omega arith,
-      ap (λ b. after b (by_read (model_from more (before + 1 + 1) text) (before + 1) (table_of p.ops) (clause_of (table_of p.ops) text at))) (base-grows old new g p.cells.items h.named p.clauses.items)
+      ap (λ b. after b (by_read (model_from more (before + 1 + 1) text) (before + 1) (table_of p.ops) (clause_of (table_of p.ops) text at))) (base-grows old new g p.store.cells h.named p.clauses.items)
           ∙ ap (after (base_of old (contents_of p))) (sym (model_from-more more (before + 1) text (table_of p.ops) at)) ∙ m,
     ),
   )
@@ -116,7 +116,7 @@ module _ (old new : List Name) (text : List ℕ) (at before : ℕ) (p : Parts) (
       (record {
         model = sym k.1.1 ∙ ap (λ r. after (base_of new (contents_of p)) (by_read (model_from k.0 (before + 1 + 1) text) (before + 1) (table_of p.ops) r)) n.0
             ∙ ap (λ c. let r : Result Model Refusal = Ok (record { clauses = c; table = table_of p.ops }) in r) (append-nil (base_of new (contents_of p)));
-        named = named-grows old new g p.cells.items h.named;
+        named = named-grows old new g p.store.cells h.named;
       })
 
   pub loading_err : (q : Parts) (fault : LoadFault) (result : Result Parts LoadFault) → result ≡ Err fault → TellsStep new p q text at (before + 1) (Err fault) → TellsParts new result (model_from most_terms 1 text start_table 0)

@@ -1,10 +1,10 @@
--- What the cell of a place tells: what a read term is, the heads that clauses may have, and the names that join goals.
-use Rattle.std.specs.Prelude.{ℕ, ◌+◌, Bool, nat_eq, ◌||◌, List, Option, Some, None, Result, Ok, Err, if◌then◌else◌}
+-- What the cell of a place tells: what a read term is, and the heads that clauses may have.
+use Rattle.std.specs.Prelude.{ℕ, ◌+◌, Bool, nat_eq, List, Option, Some, None, Result, Ok, Err, if◌then◌else◌}
 use Rattle.tp_terms.specs.declared.cells.Cell.{Cell}
 use Rattle.tp_terms.specs.declared.cells.Cell.TheVariants as cell
 use Rattle.tp_terms.specs.declared.cells.Ref.{Ref}
 use Rattle.tp_terms.specs.declared.cells.AtomId.{AtomId}
-use Rattle.tp_terms.specs.declared.symbols.TheConstants.{NECK, QUERY, GRAMMAR, CONJUNCTION, DISJUNCTION, IF_THEN}
+use Rattle.tp_terms.specs.declared.symbols.TheConstants.{NECK, QUERY, GRAMMAR}
 use Rattle.tp_terms.specs.Term.{Name}
 use Rattle.tp_terms.specs.Shown.{name_at}
 use Rattle.tp_meaning.specs.Goals.{is_reserved}
@@ -50,7 +50,3 @@ abbrev pub head_key : List Name → Option Cell → Result Key Cause
 head_key names (Some (cell.Atom name)) = free_key names name 0
 head_key names (Some (cell.Comp name first count)) = free_key names name count
 head_key names c = Err cause.Head
-
--- a control goal of this name is made of two goals
-abbrev pub joins : AtomId → Bool
-joins name = (is_atom name CONJUNCTION || is_atom name DISJUNCTION) || is_atom name IF_THEN

@@ -5,7 +5,6 @@ pub mod Loaded
 pub mod Kinds
 pub mod Moved
 pub mod Indexed
-pub mod Standing
 pub mod Bodies
 pub mod Told
 pub mod Parts

@@ -18,7 +18,7 @@ use Rattle.tp_parse.specs.declared.table.OpFault.{OpFault}
 use Rattle.tp_meaning.specs.Clauses.{Base}
 use Rattle.tp_clauses.specs.Kinds.{is_atom, head_key}
 use Rattle.tp_clauses.specs.Loaded.{Comes}
-use Rattle.tp_clauses.specs.Standing.{HasNames}
+use Rattle.tp_clauses.specs.Contents.{HasNames}
 use Rattle.tp_clauses.specs.declared.kind.Key.{Key}
 use Rattle.tp_clauses.specs.declared.kind.ReadKind.{ReadKind}
 use Rattle.tp_clauses.specs.declared.kind.ReadKind.TheVariants as kind
@@ -110,7 +110,7 @@ pub record Taken (names : List Name) (old new : Parts) (r : Result (Table × Bas
   pub adds : r ≡ Ok (table_of new.ops, more)
   pub clauses : base_of names (contents_of new) ≡ base_of names (contents_of old) ++ more
   pub parts : IsParts new
-  pub named : AreNamed (length names) new.cells.items
+  pub named : AreNamed (length names) new.store.cells
 
 -- what taking a term answers, where memory wasn't refused
 abbrev pub TellsTerm : {A : Type 0} → List Name → Parts → Parts → Result A TermFault → Result (Table × Base) Cause → Type 0
@@ -154,7 +154,7 @@ after cs (Ok m) = Ok (record { clauses = cs ++ m.clauses; table = m.table })
 pub record Steps (names : List Name) (old new : Parts) (text : List ℕ) (at number to : ℕ) : Type 0 where
   pub place : IsCharBoundary text to
   pub parts : IsParts new
-  pub named : AreNamed (length names) new.cells.items
+  pub named : AreNamed (length names) new.store.cells
   pub comes : Comes text number (table_of old.ops) at → Comes text (number + 1) (table_of new.ops) to
   pub model : (rest : Rest) → after (base_of names (contents_of old)) (by_read rest number (table_of old.ops) (clause_of (table_of old.ops) text at)) ≡ after (base_of names (contents_of new)) (rest (table_of new.ops) to)
 
@@ -187,7 +187,7 @@ TellsBegin (Err load.NoMemory) r = is_ok r ≡ true
 -- the parts of a model under a table of names
 pub record Holds (names : List Name) (p : Parts) (r : Result Model Refusal) : Type 0 where
   pub model : r ≡ Ok (record { clauses = base_of names (contents_of p); table = table_of p.ops })
-  pub named : AreNamed (length names) p.cells.items
+  pub named : AreNamed (length names) p.store.cells
 
 abbrev pub TellsParts : List Name → Result Parts LoadFault → Result Model Refusal → Type 0
 TellsParts names (Ok p) r = Holds names p r

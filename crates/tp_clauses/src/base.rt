@@ -109,7 +109,7 @@ impl Base {
         ensures cells { result.now.items ≡ self.now.cells }
         ensures base { IsBase self.now }
     {
-        &self.parts.cells
+        self.parts.store.cells()
     }
 
     /// The last table of operators. Takes no memory.

@@ -3,12 +3,12 @@
 ghost use Rattle.std.specs.Prelude.{◌≡◌, ◌<◌, List, length, slice_get, Some, IfOk};
 ghost use Rattle.tp_terms.specs.Term.{Name};
 ghost use Rattle.tp_terms.specs.Names.{IsTable};
-ghost use Rattle.tp_clauses.specs.Kinds.{binary_read, free_key, head_key, joins, key_of, read_as, unary_read};
-ghost use Rattle.tp_clauses.specs.Standing.{HasNames};
+ghost use Rattle.tp_clauses.specs.Kinds.{binary_read, free_key, head_key, key_of, read_as, unary_read};
+ghost use Rattle.tp_clauses.specs.Contents.{HasNames};
 
 use crate::fault::Cause;
 use tp_meaning::goal_kind;
-use tp_terms::symbols::{CONJUNCTION, DISJUNCTION, GRAMMAR, IF_THEN, NECK, QUERY};
+use tp_terms::symbols::{GRAMMAR, NECK, QUERY};
 use tp_terms::{AtomId, Cell, Cells, Ref};
 
 /// What a read term is, by its principal functor.
@@ -116,11 +116,4 @@ fn free_key(name: AtomId, arity: u8) -> Result<Key, Cause>
         Some(_) => Err(Cause::Builtin),
         None => Ok(Key { name, arity }),
     }
-}
-
-/// Whether a control goal of the name is made of two goals.
-pub fn joins(name: AtomId) -> bool
-    ensures { result ≡ joins name }
-{
-    name == CONJUNCTION || name == DISJUNCTION || name == IF_THEN
 }

@@ -3,7 +3,6 @@
 
 mod append;
 mod base;
-mod body;
 mod directive;
 mod fault;
 mod index;

@@ -9,7 +9,7 @@ take_read-requires-clause-below c =
     reads_below (table_of c.args.parts.now.ops) c.args.text.now c.args.at c.read_clause.new.atoms c.in-Ok-Some.read told.0 told.1 told.2
 
 pub take_read-requires-clause-known : goal.take_read-requires-clause-known
-take_read-requires-clause-known c = named-grows c.args.atoms.now c.read_clause.new.atoms c.in-Ok-Some.ensures.grows c.args.parts.now.cells.items c.requires.known
+take_read-requires-clause-known c = named-grows c.args.atoms.now c.read_clause.new.atoms c.in-Ok-Some.ensures.grows c.args.parts.now.store.cells c.requires.known
 
 pub returns-in-Ok-clause-read : goal.returns-in-Ok-clause-read
 returns-in-Ok-clause-read c =

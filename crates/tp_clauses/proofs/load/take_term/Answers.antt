@@ -23,7 +23,7 @@ pub take_rule-requires-clause-body_below : goal.take_rule-requires-clause-body_b
 take_rule-requires-clause-body_below c = λ v o. c.requires.below v ((subst (PartsOf c.args.cells.now.items c.args.root.at) (sym c.in-Rule.ensures) (parts_told c.args.cells.now.items c.requires.built c.args.root.at c.requires.within)).3 v o)
 
 pub take_rule-requires-clause-nameable : goal.take_rule-requires-clause-nameable
-take_rule-requires-clause-nameable c = record { names = c.args.atoms.now; has = c.requires.names }
+take_rule-requires-clause-nameable c = record { names = c.args.atoms.now; has = c.requires.names; known = c.requires.known }
 
 pub returns-in-Directive-clause-told : goal.returns-in-Directive-clause-told
 returns-in-Directive-clause-told c =
