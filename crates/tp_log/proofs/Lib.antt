@@ -1,1 +1,1 @@
-pub mod EntriesLemmas
+pub mod EntryAdded

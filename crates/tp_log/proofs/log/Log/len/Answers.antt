@@ -1,6 +1,6 @@
 use Rattle.std.proofs.Common.{◌≡◌, ◌≤◌, length, ap, arith}
 use Rattle.tp_log.specs.Entries.{entries, bindings_before}
-use Rattle.tp_log.proofs.EntriesLemmas.{length-entries}
+use Rattle.tp_log.proofs.EntryAdded.{length-entries}
 use Rattle.tp_log.proofs.log.Log.len.Goals as goal
 
 pub returns : goal.returns

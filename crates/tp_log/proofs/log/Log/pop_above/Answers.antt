@@ -1,6 +1,6 @@
 use Rattle.std.proofs.Common.{[], ◌∷◌, length, sym, ap, ◌∙◌, arith, length-append}
 use Rattle.tp_log.specs.Entries.{entries, bindings_before}
-use Rattle.tp_log.proofs.EntriesLemmas.{entries-bind, entries-other, bindings_before-append}
+use Rattle.tp_log.proofs.EntryAdded.{entries-bind, entries-other, bindings_before-append}
 use Rattle.tp_log.proofs.log.Log.pop_above.Goals as goal
 
 pub invariant_of-self-then-self-eq0 : goal.invariant_of-self-then-self-eq0

@@ -3,7 +3,7 @@ use Rattle.tp_log.specs.Entries.{entries}
 use Rattle.tp_log.specs.declared.log.Other.{Other}
 use Rattle.tp_log.specs.declared.entry.Entry.{Entry}
 use Rattle.tp_log.specs.declared.entry.Entry.TheVariants.{Bind}
-use Rattle.tp_log.proofs.EntriesLemmas.{entries-bind, entries-other, bindings_before-append}
+use Rattle.tp_log.proofs.EntryAdded.{entries-bind, entries-other, bindings_before-append}
 use Rattle.tp_log.proofs.log.Log.push.Goals as goal
 
 pub returns-in-Bind-clause-added : goal.returns-in-Bind-clause-added
