@@ -15,11 +15,11 @@ use std::marker::Model;
 use tp_log::{Entry, Log};
 use tp_terms::{NoMemory, Slot};
 
-/// Entries in order of time, then number. Contracts see the list of them, and how many there is room
-/// for.
+/// Entries in order of time, then number. Contracts see the list of them, and how many there is
+/// room for.
 ///
-/// The entries stand in a ring, so that the first and the last come and go at once. An entry's place is
-/// found by halving, and the shorter side of the ring is moved by one.
+/// The entries stand in a ring, so that the first and the last come and go at once. An entry's
+/// place is found by halving, and the shorter side of the ring then moves by one.
 #[derive(Drop)]
 pub struct Calendar {
     slots: VecDeque<Slot>,
@@ -125,8 +125,8 @@ impl Calendar {
         Ok(())
     }
 
-    /// Takes the first entry, and logs that. There is none exactly where there are no entries, and then
-    /// nothing is logged.
+    /// Takes the first entry, and logs that. There is none exactly where there are no entries, and
+    /// then nothing is logged.
     ///
     /// Answers `NoMemory` where memory is refused. Then entries and log are as before.
     pub fn take_first(&mut self, log: &mut Log) -> Result<Option<Slot>, NoMemory>
@@ -138,7 +138,8 @@ impl Calendar {
         ensures room { self.new.room ≡ self.old.room }
 
         // Putting it in takes that back, and can be done.
-        ensures inverse { IfOk result (λ r. IfSome r (λ s. put_slot s self.new.slots ≡ self.old.slots)) }
+        ensures inverse { IfOk result (λ r. IfSome r (λ s.
+            put_slot s self.new.slots ≡ self.old.slots)) }
         ensures free { IfOk result (λ r. IfSome r (λ s. IsFree s self.new.slots)) }
         ensures within { IfOk result (λ r. IfSome r (λ _. length self.new.slots < self.new.room)) }
     {
