@@ -18,8 +18,8 @@ use tree::{NOTHING, Node, live_in, mend};
 /// Processes in the order in which they were made. Contracts see the list of them, whose names are
 /// distinct.
 ///
-/// Names are found by hash. The first marked process and the least end time stand in a tree over the
-/// processes, of which an act changes one node a level: some 15 for 30,000 processes.
+/// Names are found by hash. The first marked process and the least end time stand in a tree over
+/// the processes, of which an act changes one node a level: some 15 for 30,000 processes.
 #[derive(Drop)]
 pub struct Procs {
     procs: Vec<Proc>,
@@ -86,8 +86,8 @@ impl Procs {
         self.nodes.first()?.marked
     }
 
-    /// The least end time of live processes, in units of simulated time. There is none exactly where
-    /// no live process has one.
+    /// The least end time of live processes, in units of simulated time. There is none exactly
+    /// where no live process has one.
     pub fn earliest_end(&self) -> Option<i64>
         ensures { result ≡ earliest self.now }
     {

@@ -1,4 +1,4 @@
-use Rattle.std.proofs.Common.{subst, ◌++◌, ◌∷◌, []}
+use Rattle.std.proofs.Common.{subst}
 use Rattle.tp_control.specs.Stamps.{StampsRise}
 use Rattle.tp_control.proofs.StampsStay.{rise-changed}
 use Rattle.tp_control.proofs.choices.Choices.set_last.Goals as goal
