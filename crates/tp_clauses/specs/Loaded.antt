@@ -22,10 +22,12 @@ pub record Has (names : List Name) (c : Contents) (m : Model) : Type 0 where
 -- what `load` answers, where memory wasn't refused
 abbrev pub Tells : List Name → Result Contents LoadFault → Result Model Refusal → Type 0
 Tells names (Ok c) r = (m : Model) × (r ≡ Ok m) × Has names c m
-Tells names (Err (Refused clause byte cause)) r = r ≡ Err (record { clause = clause; byte = byte; cause = cause })
+Tells names (Err (Refused clause byte cause)) r =
+    r ≡ Err (record { clause = clause; byte = byte; cause = cause })
 Tells names (Err NoMemory) r = Unit {0}
 
--- how far the definition comes in a text: to a read term's number, with a table of operators, at a byte
+-- how far the definition comes in a text: to a read term's number, with a table of operators, at a
+-- byte
 pub data Comes (text : List ℕ) : ℕ → Table → ℕ → Type 0 where
   Begin : Comes text 1 start_table 0
   PastDirective : (n : ℕ) (ops : Table) (at : ℕ) (f : Found) (changed : Table) →
@@ -35,8 +37,8 @@ pub data Comes (text : List ℕ) : ℕ → Table → ℕ → Type 0 where
       Comes text n ops at → clause_of ops text at ≡ Ok (Some f) →
       kind_of ops f.term f.vars ≡ OfClause (Ok c) → Comes text (n + 1) ops f.to
 
--- Memory may be wanted to load a text: the definition comes to a read term that may still come, and isn't refused for
--- the first token there.
+-- Memory may be wanted to load a text: the definition comes to a read term that may still come, and
+-- isn't refused for the first token there.
 pub record AsksMemory (text : List ℕ) : Type 0 where
   pub number : ℕ
   pub ops : Table

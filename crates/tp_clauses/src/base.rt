@@ -59,9 +59,10 @@ impl Base {
     /// The base of a text, as docs/LANGUAGE.md defines it (ISO/IEC 13211-1, clause 7.4).
     ///
     /// # Errors
-    /// `Refused` with the clause's number, the byte and the cause where the text has no model, and `NoMemory` where
-    /// memory was refused. Both may leave new names in `atoms`; no name changes its place. `NoMemory` never stands for a
-    /// text that isn't UTF-8, nor for a read term that is refused at its first token.
+    /// `Refused` with the clause's number, the byte and the cause where the text has no model, and
+    /// `NoMemory` where memory was refused. Both may leave new names in `atoms`; no name changes
+    /// its place. `NoMemory` never stands for a text that isn't UTF-8, nor for a read term that is
+    /// refused at its first token.
     pub fn load(alloc: Global, text: &[u8], atoms: &mut Atoms) -> Result<Base, LoadFault>
         ensures model { Tells atoms.new result (model text.now) }
         ensures base { IfOk result IsBase }
@@ -82,13 +83,16 @@ impl Base {
         }
     }
 
-    /// The clauses of a name and a number of arguments, in text order; `None` exactly where there is none. Takes no
-    /// memory.
+    /// The clauses of a name and a number of arguments, in text order; `None` exactly where there
+    /// is none. Takes no memory.
     pub fn clauses(&self, name: AtomId, arity: u8) -> Option<&[ClauseId]>
-        ensures listed { MatchOption result (places_of name arity self.now ≡ []) (λ ids. ids.now ≡ places_of name arity self.now) }
+        ensures listed { MatchOption result (places_of name arity self.now ≡ [])
+            (λ ids. ids.now ≡ places_of name arity self.now) }
         ensures some { IfSome result (λ ids. 0 < length ids.now) }
-        ensures predicate { (names : List Name) → AreDistinct names → AreNamed (length names) self.now.cells → name.at < length names →
-            clauses_at names self.now (places_of name arity self.now) ≡ map Some (predicate (base_of names self.now) (name_at names name.at) arity) }
+        ensures predicate { (names : List Name) → AreDistinct names →
+            AreNamed (length names) self.now.cells → name.at < length names →
+            clauses_at names self.now (places_of name arity self.now) ≡ map Some
+                (predicate (base_of names self.now) (name_at names name.at) arity) }
         ensures base { IsBase self.now }
     {
         let ids = self.parts.index.ids(Key { name, arity });
