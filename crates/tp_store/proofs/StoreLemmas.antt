@@ -16,7 +16,7 @@ use Rattle.tp_meaning.specs.Valid.{Below, AllBelow}
 use Rattle.tp_meaning.proofs.Unify.{unbound}
 use Rattle.tp_meaning.proofs.Under.{Bound, apply-below, extended-below}
 use Rattle.tp_store.specs.Contents.{Contents, chained, subst_of, seen, AreChained, IsStore, CanGoBack, cut_to_mark}
-use Rattle.tp_store.proofs.ChainLemmas.{IsSubst-chained, unnamed, named, unclaimed}
+use Rattle.tp_store.proofs.Substitution.Chained.{IsSubst-chained, unnamed, named, unclaimed}
 
 pub IsSubst-store : (names : List Name) (c : Contents) → IsStore c → IsSubst (subst_of names c)
 IsSubst-store names c s = IsSubst-chained names c.cells c.vars c.pairs (s.chain names)

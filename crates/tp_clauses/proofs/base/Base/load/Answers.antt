@@ -1,5 +1,5 @@
 use Rattle.std.proofs.Common.{◌∙◌}
-use Rattle.tp_clauses.proofs.BaseLemmas.{base_told, fault_told, memory_told, model_bytes}
+use Rattle.tp_clauses.proofs.Loading.Whole.{base_told, fault_told, memory_told, model_bytes}
 use Rattle.tp_clauses.specs.declared.parts.Parts.{Parts}
 use Rattle.tp_clauses.specs.declared.base.Base.{Base}
 use Rattle.tp_clauses.proofs.base.Base.load.Goals as goal

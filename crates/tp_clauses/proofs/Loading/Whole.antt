@@ -7,7 +7,7 @@ use Rattle.std.proofs.lemmas.Str.{IsUtf8-from_is_utf8, is_utf8-from_IsUtf8}
 use Rattle.tp_parse.specs.Ops.{table_of}
 use Rattle.tp_clauses.specs.Parts.{contents_of}
 use Rattle.tp_clauses.specs.Told.{Holds, TellsParts}
-use Rattle.tp_clauses.proofs.LoadLemmas.{fault_same}
+use Rattle.tp_clauses.proofs.Loading.Text.{fault_same}
 use Rattle.tp_clauses.specs.Loaded.{AsksMemory, Has, Tells}
 use Rattle.tp_clauses.specs.declared.parts.Parts.{Parts}
 use Rattle.tp_clauses.specs.declared.fault.LoadFault.{LoadFault}
@@ -41,8 +41,8 @@ use Rattle.tp_clauses.specs.Contents.{Contents, IsBase, ViewFits, IsHead, AreBel
 use Rattle.tp_clauses.specs.declared.base.ClauseId.{ClauseId}
 use Rattle.tp_clauses.specs.declared.base.ClauseView.{ClauseView}
 use Rattle.tp_clauses.specs.declared.fault.Cause.{Cause}
-use Rattle.tp_clauses.proofs.OccursLemmas.{occurs-names}
-use Rattle.tp_clauses.proofs.DirectiveLemmas.{cell_at}
+use Rattle.tp_clauses.proofs.Taking.Variables.{occurs-names}
+use Rattle.tp_clauses.proofs.Taking.Directives.{cell_at}
 
 -- ---- places
 

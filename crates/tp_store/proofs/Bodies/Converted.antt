@@ -27,7 +27,7 @@ use Rattle.tp_store.specs.Contents.{Contents, AddsCells, IsStore, IsUnbound, cha
 use Rattle.tp_store.specs.Chain.{IsEnd}
 use Rattle.tp_store.specs.Work.{AreIn}
 use Rattle.tp_store.specs.Bodies.{joins, compound_form, form_of, pair_of, IsPair, asks_memory, onward, bodies_by, seen_each, AreJobs, AreOwn, AsksMemory, KeepsOwn, jobs_size, Goes, Looked}
-use Rattle.tp_store.proofs.KeptLemmas.{seen-append, subst_of-append}
+use Rattle.tp_store.proofs.Substitution.Kept.{seen-append, subst_of-append}
 use Rattle.tp_store.proofs.StoreLemmas.{value-unbound}
 
 -- ---- cells that are added

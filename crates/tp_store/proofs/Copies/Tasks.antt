@@ -16,7 +16,7 @@ use Rattle.tp_store.specs.declared.copy.Task.{Task}
 use Rattle.tp_store.specs.declared.copy.Task.TheVariants.{Copy, Build}
 use Rattle.tp_store.specs.Contents.{Contents, AddsCells, IsNumbered, with_cell}
 use Rattle.tp_store.specs.Copy.{IsClaimed, IsLast, copies, made_by, AreTasks, AreReady, looked_at}
-use Rattle.tp_store.proofs.CopyLemmas.{AreReady-later}
+use Rattle.tp_store.proofs.Copies.Rows.{AreReady-later}
 
 -- ---- rows of arguments
 
