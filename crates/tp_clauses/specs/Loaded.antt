@@ -1,5 +1,5 @@
 -- A base that was loaded, against the definition.
-use Rattle.std.specs.Prelude.{◌≡◌, ℕ, ◌+◌, ◌≤◌, true, List, length, Some, Result, Ok, Err}
+use Rattle.std.specs.Prelude.{◌≡◌, ℕ, ◌+◌, ◌≤◌, true, List, length, Some, IfSome, Result, Ok, Err}
 use Rattle.std.specs.Result.{is_ok}
 use Rattle.tp_terms.specs.Term.{Name}
 use Rattle.tp_terms.specs.Shown.{AreNamed}
@@ -7,6 +7,7 @@ use Rattle.tp_lex.specs.Next.{next}
 use Rattle.tp_parse.specs.Ops.{table_of}
 use Rattle.tp_parse.specs.Table.{Table, start_table}
 use Rattle.tp_parse.specs.Texts.{Found, clause_of}
+use Rattle.tp_meaning.specs.Body.{body}
 use Rattle.tp_meaning.specs.Clauses.{Clause}
 use Rattle.tp_clauses.specs.Contents.{Contents, base_of}
 use Rattle.tp_clauses.specs.Model.{Model, Refusal, Directive, OfClause, kind_of, most_terms}
@@ -46,3 +47,7 @@ pub record AsksMemory (text : List ℕ) : Type 0 where
   pub comes : Comes text number ops at
   pub few : number ≤ most_terms
   pub token : is_ok (next text at) ≡ true
+
+-- a clause's body is its own body
+abbrev pub HasBody : Clause → Type 0
+HasBody c = IfSome c.body (λ b. body b ≡ Some b)

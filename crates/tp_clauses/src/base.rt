@@ -1,13 +1,15 @@
 //! The base of clauses.
 
 ghost use Rattle.std.specs.Prelude.{◌≡◌, ◌<◌, List, [], length, map, slice_get, true, Some, Err, IfOk, IfSome, MatchOption};
+ghost use Rattle.std.specs.List.{AllByRecursion};
 ghost use Rattle.std.specs.Str.{is_utf8};
 ghost use Rattle.tp_terms.specs.Term.{Name};
 ghost use Rattle.tp_terms.specs.Names.{AreDistinct, Grows};
 ghost use Rattle.tp_terms.specs.Shown.{AreNamed, name_at};
 ghost use Rattle.tp_meaning.specs.Clauses.{predicate};
+ghost use Rattle.tp_meaning.specs.Valid.{ClauseFits};
 ghost use Rattle.tp_clauses.specs.Contents.{IsBase, ViewFits, base_of, clauses_at, places_of};
-ghost use Rattle.tp_clauses.specs.Loaded.{AsksMemory, Tells};
+ghost use Rattle.tp_clauses.specs.Loaded.{AsksMemory, HasBody, Tells};
 ghost use Rattle.tp_clauses.specs.Model.{model};
 
 use crate::fault::{Cause, LoadFault};
@@ -66,6 +68,9 @@ impl Base {
     pub fn load(alloc: Global, text: &[u8], atoms: &mut Atoms) -> Result<Base, LoadFault>
         ensures model { Tells atoms.new result (model text.now) }
         ensures base { IfOk result IsBase }
+        ensures fit { IfOk result (λ base. (names : List Name) →
+            AllByRecursion ClauseFits (base_of names base)) }
+        ensures bodies { IfOk result (λ base. AllByRecursion HasBody (base_of atoms.new base)) }
         ensures grows { Grows atoms.old atoms.new }
         ensures memory { result ≡ Err LoadFault.NoMemory →
             (is_utf8 text.now ≡ true) × AsksMemory text.now }

@@ -69,9 +69,6 @@ chained-below names c s (p ∷ pairs) h =
     extended-below c.vars p.0 (apply (chained names c.cells pairs) (shows names c.cells p.1.at)) (chained names c.cells pairs) (h.0).claimed
     (apply-below c.vars (chained names c.cells pairs) (shows names c.cells p.1.at) b (shows-below names c p.1.at s (h.0).stands)) b
 
-pub subst_of-below : (names : List Name) (c : Contents) → IsStore c → Bound c.vars (subst_of names c)
-subst_of-below names c s = chained-below names c s c.pairs (s.chain names)
-
 -- ---- names
 
 -- a longer table of names changes nothing

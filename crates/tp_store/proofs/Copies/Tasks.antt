@@ -152,16 +152,6 @@ pub record IsCopying (from : List Cell) (base root : ℕ) (old now : Contents) (
   pub makes : (names : List Name) → made_by names from base tasks (map (shown_from names now.cells) made) ≡ renamed base (shows names from root) ∷ []
   pub named : (n : ℕ) → AreNamed n from → AreNamed n old.cells → AreNamed n now.cells × AreNamed n made × AreTasksNamed n tasks
 
-pub copy_start : (from : List Cell) (base : ℕ) (root : Ref) (c : Contents) → root.at < length from → IsClaimed from root.at base c.vars → IsCopying from base root.at c c (Copy root ∷ []) []
-copy_start from base root c lt claimed = record {
-  adds = record { more = []; cells = sym (append-nil c.cells); pairs = refl; vars = refl };
-  ready = tt;
-  can = (lt, claimed, refl);
-  few = omega arith;
-  makes = λ names. refl;
-  named = λ n f h. (h, tt, tt);
-}
-
 module _ (from : List Cell) (base root : ℕ) (old now : Contents) (at : Ref) (tasks : List Task) (made : List Cell) (h : IsCopying from base root old now (Copy at ∷ tasks) made) where
   -- one more cell is made
   one_more : (x : Cell) → term_size (shows [] from at.at) ≡ 1 → StandsBefore (length now.cells) x → IsNumbered now.vars x → ((names : List Name) → shown_from names now.cells x ≡ renamed base (shows names from at.at)) → ((n : ℕ) → AreNamed n from → IsNamed n x) → IsCopying from base root old now tasks (x ∷ made)
