@@ -132,8 +132,8 @@ TellsTerm names old new (Err NoMemory) r = Unit {0}
 abbrev pub MayDefine : List Cell → Ref → Type 0
 MayDefine cells head =
     (key : Key) ×
-        ((names : List Name) → HasNames names cells →
-        head_key names (slice_get cells head.at) ≡ Ok key)
+    ((names : List Name) → HasNames names cells →
+    head_key names (slice_get cells head.at) ≡ Ok key)
 
 -- no integer, which is no goal
 abbrev pub IsNoInteger : Option Cell → Type 0
@@ -176,7 +176,7 @@ pub record Steps (names : List Name) (old new : Parts) (text : List ℕ)
       Comes text (number + 1) (table_of new.ops) to
   pub model : (rest : Rest) →
       after (base_of names (contents_of old))
-          (by_read rest number (table_of old.ops) (clause_of (table_of old.ops) text at))
+      (by_read rest number (table_of old.ops) (clause_of (table_of old.ops) text at))
       ≡ after (base_of names (contents_of new)) (rest (table_of new.ops) to)
 
 abbrev pub TellsStep : List Name → Parts → Parts → List ℕ → ℕ → ℕ → Result (Option ℕ) LoadFault →
@@ -196,7 +196,7 @@ abbrev pub TellsToken : ℕ → Result (Option Token) LoadFault → Result (Opti
 TellsToken number (Ok found) r = r ≡ Ok found
 TellsToken number (Err (load.Refused clause byte c)) r =
     (fault : LexFault) × (r ≡ Err fault) ×
-        (refusal clause byte c ≡ refused_read number (refused_token fault))
+    (refusal clause byte c ≡ refused_read number (refused_token fault))
 TellsToken number (Err load.NoMemory) r = ⊥
 
 -- what seeing the end answers: it takes no memory
@@ -212,7 +212,7 @@ abbrev pub TellsBegin : Result Parts LoadFault → Result (Option Token) LexFaul
 TellsBegin (Ok p) r = IsEmpty p
 TellsBegin (Err (load.Refused clause byte c)) r =
     (fault : LexFault) × (r ≡ Err fault) ×
-        (refusal clause byte c ≡ refused_read 1 (refused_token fault))
+    (refusal clause byte c ≡ refused_read 1 (refused_token fault))
 TellsBegin (Err load.NoMemory) r = is_ok r ≡ true
 
 -- the parts of a model under a table of names

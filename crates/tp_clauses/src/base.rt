@@ -97,7 +97,7 @@ impl Base {
         ensures predicate { (names : List Name) → AreDistinct names →
             AreNamed (length names) self.now.cells → name.at < length names →
             clauses_at names self.now (places_of name arity self.now) ≡ map Some
-                (predicate (base_of names self.now) (name_at names name.at) arity) }
+            (predicate (base_of names self.now) (name_at names name.at) arity) }
         ensures base { IsBase self.now }
     {
         let ids = self.parts.index.ids(Key { name, arity });

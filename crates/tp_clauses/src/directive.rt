@@ -166,7 +166,7 @@ fn add_name(
         (table_of ops.old))) }
     ensures memory { result ≡ Err TermFault.NoMemory → (t : Table) ×
         (add_op priority (name_at atoms.now kind.at) (name_at atoms.now name.at) (table_of ops.old)
-            ≡ Ok t) }
+        ≡ Ok t) }
 {
     match ops.add(priority, atoms.name(kind), atoms.name(name)) {
         Ok(()) => Ok(()),

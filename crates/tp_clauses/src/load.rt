@@ -238,8 +238,8 @@ fn take_fact(
     ensures told { (names : List Name) → HasNames names cells.now.items →
         AreNamed (length names) parts.old.store.cells →
         TellsTerm names parts.old parts.new result
-            (outcome (table_of parts.old.ops)
-            (OfClause (with_head (shows names cells.now.items head.at) vars None))) }
+        (outcome (table_of parts.old.ops)
+        (OfClause (with_head (shows names cells.now.items head.at) vars None))) }
     ensures memory { result ≡ Err TermFault.NoMemory → MayDefine cells.now.items head }
 {
     match head_key(cells, head) {
@@ -276,9 +276,9 @@ fn take_rule(
     ensures told { (names : List Name) → HasNames names cells.now.items →
         AreNamed (length names) parts.old.store.cells →
         TellsTerm names parts.old parts.new result
-            (outcome (table_of parts.old.ops)
-            (OfClause (rule (shows names cells.now.items head.at)
-            (shows names cells.now.items body.at) vars))) }
+        (outcome (table_of parts.old.ops)
+        (OfClause (rule (shows names cells.now.items head.at)
+        (shows names cells.now.items body.at) vars))) }
     ensures memory { result ≡ Err TermFault.NoMemory →
         MayDefine cells.now.items head × IsNoInteger (slice_get cells.now.items body.at) }
 {
@@ -311,9 +311,9 @@ fn take_body(
     ensures told { (names : List Name) → HasNames names cells.now.items →
         AreNamed (length names) parts.old.store.cells →
         TellsTerm names parts.old parts.new result
-            (outcome (table_of parts.old.ops)
-            (OfClause (rule (shows names cells.now.items head.at)
-            (shows names cells.now.items body.at) vars))) }
+        (outcome (table_of parts.old.ops)
+        (OfClause (rule (shows names cells.now.items head.at)
+        (shows names cells.now.items body.at) vars))) }
     ensures memory { result ≡ Err TermFault.NoMemory →
         IsNoInteger (slice_get cells.now.items body.at) }
 {

@@ -63,14 +63,14 @@ KeepsNames name old new = (n : ℕ) → name.at < n → AreNamed n old.cells →
 abbrev pub ShowsCall : Contents → Contents → Ref → Ref → Type 0
 ShowsCall old new place at =
     (names : List Name) →
-        seen names new at.at ≡ Comp (name_at names CALL.at) (More (seen names old place.at) NoMore)
+    seen names new at.at ≡ Comp (name_at names CALL.at) (More (seen names old place.at) NoMore)
 
 -- a place shows two goals, joined by a name
 abbrev pub ShowsPair : Contents → Contents → AtomId → Ref → Ref → Ref → Type 0
 ShowsPair old new name left right at =
     (names : List Name) →
     seen names new at.at ≡ pair_of (name_at names name.at) (seen names old left.at)
-        (seen names old right.at)
+    (seen names old right.at)
 
 -- a goal's own place was found, and nothing was added
 pub record IsOwn (old new : Contents) (goal : Ref) (found : Option Ref) : Type 0 where
@@ -81,7 +81,7 @@ pub record IsOwn (old new : Contents) (goal : Ref) (found : Option Ref) : Type 0
 abbrev pub KeepsOwn : Contents → Contents → Ref → Option Ref → Type 0
 KeepsOwn old new goal found =
     (names : List Name) → IsTable names → AreNamed (length names) old.cells →
-        body (seen names old goal.at) ≡ Some (seen names old goal.at) → IsOwn old new goal found
+    body (seen names old goal.at) ≡ Some (seen names old goal.at) → IsOwn old new goal found
 
 -- want of memory comes only where memory may be taken to find the goal's body
 abbrev pub AsksMemory : Contents → Ref → Type 0

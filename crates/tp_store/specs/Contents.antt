@@ -139,4 +139,4 @@ abbrev pub IsUnifiable : Contents → Ref → Ref → Bool → Type 0
 IsUnifiable c left right found =
     (names : List Name) → Names names c.cells →
     found ≡ is_some (mgu (subst_of names c) (shows names c.cells left.at)
-        (shows names c.cells right.at))
+    (shows names c.cells right.at))

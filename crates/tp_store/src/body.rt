@@ -179,9 +179,9 @@ fn join(
     ensures adds { AddsCells (contents_of chains.old) (contents_of chains.new) }
     ensures step { OnOk result ((jobs : List Job) →
         AreJobs (contents_of chains.old) (Job.Join at name goals.0 goals.1 ∷ jobs)
-            (length (reverse made.old.items)) →
+        (length (reverse made.old.items)) →
         Goes (contents_of chains.old) (Job.Join at name goals.0 goals.1 ∷ jobs)
-            (reverse made.old.items) (contents_of chains.new) jobs (reverse made.new.items)) }
+        (reverse made.old.items) (contents_of chains.new) jobs (reverse made.new.items)) }
 {
     let bodies = two_newest(made);
     let place = rejoined(chains, at, name, goals, bodies)?;
@@ -228,7 +228,7 @@ fn look_at(
     ensures adds { AddsCells (contents_of chains.old) (contents_of chains.new) }
     ensures step { IfOk result (λ has.
         Looked has (contents_of chains.old) at (reverse jobs.old.items) (reverse made.old.items)
-            (contents_of chains.new) (reverse jobs.new.items) (reverse made.new.items)) }
+        (contents_of chains.new) (reverse jobs.new.items) (reverse made.new.items)) }
 {
     let end = chains.end(at);
     match as_goal(end.cell) {

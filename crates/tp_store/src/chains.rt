@@ -155,8 +155,12 @@ impl Chains {
         requires kept { kept ≤ length self.old.pairs.items }
         ensures chains { IsChains self.new }
         ensures value { contents_of self.new
-            ≡ record { cells = self.old.cells.items; pairs = reverse
-            (take kept self.old.pairs.items); vars = length self.old.bound.items } }
+            ≡ record {
+              cells = self.old.cells.items;
+              pairs = reverse
+                  (take kept self.old.pairs.items);
+              vars = length self.old.bound.items;
+            } }
     {
         'undo: while self.pairs.len() > kept {
             if let Some(newest) = self.pairs.pop() {

@@ -308,9 +308,11 @@ module _ (c c' : Contents) (s : IsStore c) (a : AddsCells c c') (at : Ref) (name
         let first : x ≡ left = cc in
         let second : y ≡ right = cc in
         let q = own first second in
-        let rest : o.0 ≡ made = cc in
-        (q.0, subst (λ (c2 : Contents). AreOwn names c2 root jobs (p ∷ made)) (sym q.0)
-        (subst (λ (r : Ref). AreOwn names c root jobs (r ∷ made)) (sym q.1) (subst (λ (rs : List Ref). AreOwn names c root jobs (at ∷ rs)) rest o.2)));
+        let rest : o.0 ≡ made = cc in (
+          q.0,
+          subst (λ (c2 : Contents). AreOwn names c2 root jobs (p ∷ made)) (sym q.0)
+              (subst (λ (r : Ref). AreOwn names c root jobs (r ∷ made)) (sym q.1) (subst (λ (rs : List Ref). AreOwn names c root jobs (at ∷ rs)) rest o.2)),
+        );
   }
 
 -- ---- jobs one after another
