@@ -1,5 +1,5 @@
 -- What a base is: its places against the clauses of a predicate, and that every clause fits.
-use Rattle.std.proofs.Common.{◌≡◌, ℕ, zero, suc, ◌+◌, ◌<◌, ◌≤◌, nat_eq, Bool, true, false, ◌&&◌, ◌||◌, codes, List, [], ◌∷◌, length, map, slice_get, Option, Some, None, option_map, IfSome, Result, Ok, Err, refl, sym, ap, subst, ◌∙◌, arith, if◌then◌else◌}
+use Rattle.std.proofs.Common.{◌≡◌, ℕ, zero, suc, ◌+◌, ◌<◌, nat_eq, Bool, true, false, ◌&&◌, ◌||◌, codes, List, [], ◌∷◌, length, map, slice_get, Option, Some, None, option_map, IfSome, Result, Ok, Err, refl, sym, ap, subst, ◌∙◌, arith, if◌then◌else◌}
 use Rattle.std.specs.List.{All, AllByRecursion}
 use Rattle.std.specs.Str.{IsUtf8, is_utf8}
 use Rattle.std.specs.Str.Lossy.{utf8_valid_len}
@@ -7,7 +7,8 @@ use Rattle.std.proofs.lemmas.Str.{IsUtf8-from_is_utf8, is_utf8-from_IsUtf8}
 use Rattle.tp_parse.specs.Ops.{table_of}
 use Rattle.tp_clauses.specs.Parts.{contents_of}
 use Rattle.tp_clauses.specs.Told.{Holds, TellsParts}
-use Rattle.tp_clauses.specs.Loaded.{Has, Tells}
+use Rattle.tp_clauses.proofs.LoadLemmas.{fault_same}
+use Rattle.tp_clauses.specs.Loaded.{AsksMemory, Has, Tells}
 use Rattle.tp_clauses.specs.declared.parts.Parts.{Parts}
 use Rattle.tp_clauses.specs.declared.fault.LoadFault.{LoadFault}
 use Rattle.tp_clauses.specs.declared.fault.LoadFault.TheVariants.{Refused, NoMemory}
@@ -18,12 +19,12 @@ use Rattle.tp_terms.specs.declared.cells.Ref.{Ref}
 use Rattle.tp_terms.specs.declared.cells.AtomId.{AtomId}
 use Rattle.tp_terms.specs.Term.{Name, Term, Terms, Var, Int, Atom, Comp, NoMore, More, names_eq, count_of, occurs, occurs_in}
 use Rattle.tp_terms.specs.Names.{AreDistinct}
-use Rattle.tp_terms.specs.Shown.{name_at, shows, shown_from, args_at, StandsBefore, IsNamed, AreBuilt, AreNamed}
+use Rattle.tp_terms.specs.Shown.{name_at, shows, shown_from, args_at, IsNamed, AreBuilt, AreNamed}
 use Rattle.tp_terms.proofs.ShownLemmas.{shows-cell, AreNamed-cell}
 use Rattle.tp_terms.proofs.NameLemmas.{names_eq-places}
 use Rattle.tp_meaning.specs.Body.{body}
 use Rattle.tp_meaning.proofs.Bodies.{body-own}
-use Rattle.tp_meaning.specs.Clauses.{Clause, Base, predicate}
+use Rattle.tp_meaning.specs.Clauses.{Clause, predicate}
 use Rattle.tp_meaning.specs.Valid.{Below, AllBelow, ClauseFits}
 use Rattle.tp_parse.specs.Table.{Table, start_table}
 use Rattle.tp_parse.specs.Texts.{Found, clause_of as read_clause_of}
@@ -34,9 +35,9 @@ use Rattle.tp_lex.specs.declared.token.LexFault.{LexFault}
 use Rattle.std.proofs.lemmas.Bool.{eq-eqb}
 use Rattle.tp_clauses.specs.Directives.{directive}
 use Rattle.tp_clauses.specs.declared.fault.Cause.TheVariants as cause
-use Rattle.tp_clauses.specs.Reserved.{is_reserved}
-use Rattle.tp_clauses.specs.Model.{Model, Refusal, Rest, Kind, Directive, OfClause, model, model_from, most_terms, by_read, by_kind, by_token, kind_of, unary_kind, binary_kind, rule, with_head, headed, with_body, with_clause, refused_bytes}
-use Rattle.tp_clauses.specs.Contents.{Contents, IsBase, ViewFits, IsHead, AreBelow, base_of, clause_of, clause_by, head_name, head_args, is_of, is_of_by, places_from, places_of, clauses_at}
+use Rattle.tp_meaning.specs.Goals.{is_reserved}
+use Rattle.tp_clauses.specs.Model.{Model, Refusal, Rest, Directive, OfClause, model, model_from, most_terms, by_read, by_kind, by_token, kind_of, rule, with_head, headed, with_body, with_clause, refused_bytes}
+use Rattle.tp_clauses.specs.Contents.{Contents, IsBase, ViewFits, IsHead, AreBelow, base_of, clause_of, head_name, head_args, is_of, is_of_by, places_from, places_of, clauses_at}
 use Rattle.tp_clauses.specs.declared.base.ClauseId.{ClauseId}
 use Rattle.tp_clauses.specs.declared.base.ClauseView.{ClauseView}
 use Rattle.tp_clauses.specs.declared.fault.Cause.{Cause}
@@ -247,3 +248,7 @@ base_told names bytes text p e u h =
 pub fault_told : (names : List Name) (bytes text : List ℕ) (fault : LoadFault) → text ≡ bytes → IsUtf8 bytes → TellsParts names (Err fault) (model_from most_terms 1 text start_table 0) → Tells names (Err fault) (model bytes)
 fault_told names bytes text (Refused clause byte c) e u h = model_utf8 bytes text e u ∙ h
 fault_told names bytes text NoMemory e u h = tt
+
+-- want of memory for a text that is UTF-8
+pub memory_told : (A B : Type 0) (bytes text : List ℕ) (fault : LoadFault) → text ≡ bytes → IsUtf8 bytes → (◌≡◌ {A = Result A LoadFault} (Err fault) (Err NoMemory) → AsksMemory text) → ◌≡◌ {A = Result B LoadFault} (Err fault) (Err NoMemory) → (is_utf8 bytes ≡ true) × AsksMemory bytes
+memory_told A B bytes text fault e u asks w = (is_utf8-from_IsUtf8 bytes u, subst AsksMemory e (asks (fault_same B A fault NoMemory w)))

@@ -8,23 +8,22 @@ use Rattle.tp_terms.specs.declared.cells.Cell.TheVariants as cell
 use Rattle.tp_terms.specs.declared.cells.Ref.{Ref}
 use Rattle.tp_terms.specs.declared.cells.AtomId.{AtomId}
 use Rattle.tp_terms.specs.declared.symbols.TheConstants.{OP, LIST_CELL, EMPTY_LIST}
-use Rattle.tp_terms.specs.Term.{Name, Term, Terms, Var, Int, Atom, Comp, NoMore, More, names_eq, count_of}
-use Rattle.tp_terms.specs.Names.{IsTable}
-use Rattle.tp_terms.specs.Shown.{name_at, shows, shown_from, args_at, StandsBefore, IsNamed, AreNamed, AreBuilt}
+use Rattle.tp_terms.specs.Term.{Name, Term, Terms, Int, Atom, Comp, NoMore, More, names_eq, count_of}
+use Rattle.tp_terms.specs.Shown.{name_at, shows, shown_from, args_at, StandsBefore, IsNamed, AreBuilt}
 use Rattle.tp_terms.proofs.ShownLemmas.{shows-cell, AreNamed-cell}
 use Rattle.tp_parse.specs.Table.{Table, add_op}
 use Rattle.tp_parse.specs.declared.table.OpFault.{OpFault}
 use Rattle.tp_clauses.specs.Kinds.{is_atom}
-use Rattle.tp_clauses.specs.Standing.{HasNames}
+use Rattle.tp_clauses.specs.Contents.{HasNames}
 use Rattle.tp_clauses.specs.Directives.{directive, listed_names, op_names, add_each, add_names, with_first, allows}
 use Rattle.tp_clauses.specs.declared.fault.Cause.TheVariants as cause
 use Rattle.tp_clauses.specs.declared.directive.TermFault.{TermFault}
 use Rattle.tp_clauses.specs.declared.directive.TermFault.TheVariants.{Refused, NoMemory}
-use Rattle.tp_clauses.specs.Told.{TellsDirective, added_or_none, each_added, lone_name, list_part, element_part, operators_at, typed, allows_atom}
+use Rattle.tp_clauses.specs.Told.{TellsDirective, added_or_none, each_added, lone_name, list_part, element_part, operators_at, typed}
 use Rattle.tp_clauses.specs.declared.directive.Operators.{Operators}
 use Rattle.tp_clauses.specs.declared.directive.ListPart.{ListPart}
 use Rattle.tp_clauses.specs.declared.directive.ListPart.TheVariants as part
-use Rattle.tp_clauses.proofs.KindLemmas.{is_atom-named, op, list_cell, empty_list, allows-named}
+use Rattle.tp_clauses.proofs.KindLemmas.{is_atom-named, op, list_cell, empty_list}
 
 -- there is a cell at each place
 pub cell_at : (cells : List Cell) (at : ℕ) → at < length cells → (c : Cell) × (slice_get cells at ≡ Some c)

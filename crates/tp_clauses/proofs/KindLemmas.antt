@@ -1,50 +1,23 @@
 -- Atoms of a table of names, against the names of the start.
-use Rattle.std.proofs.Common.{◌≡◌, ℕ, ◌<◌, lit<, ◌||◌, ◌&&◌, nat_le, Bool, true, false, List, length, Option, Some, None, is_some, ℤ, pos, negsuc, slice_get, refl, ap, ◌∙◌, if◌then◌else◌}
+use Rattle.std.proofs.Common.{◌≡◌, ◌<◌, lit<, ◌||◌, ◌&&◌, nat_le, Bool, true, false, List, length, Option, Some, None, is_some, ℤ, pos, negsuc, slice_get, refl, ap, ◌∙◌, if◌then◌else◌}
 use Rattle.std.specs.Prelude.{codes}
 use Rattle.tp_terms.specs.declared.cells.AtomId.{AtomId}
-use Rattle.tp_terms.specs.declared.symbols.TheConstants.{CONJUNCTION, DISJUNCTION, IF_THEN, CALL, OP, LIST_CELL, EMPTY_LIST, NECK, QUERY, GRAMMAR, XFX, XFY, YFX, FY, FX}
+use Rattle.tp_terms.specs.declared.symbols.TheConstants.{CALL, OP, LIST_CELL, EMPTY_LIST, NECK, QUERY, GRAMMAR, XFX, XFY, YFX, FY, FX}
 use Rattle.tp_terms.specs.Term.{Name, names_eq}
 use Rattle.tp_terms.specs.Shown.{name_at}
 use Rattle.tp_terms.specs.StartNames.{start_names}
 use Rattle.tp_terms.specs.Names.{IsTable}
-use Rattle.tp_terms.proofs.StartLemmas.{names_eq-start, start-name_at, start-within}
-use Rattle.tp_meaning.specs.Body.{joins_goals}
+use Rattle.tp_terms.proofs.StartLemmas.{names_eq-start, start-within}
 use Rattle.tp_parse.specs.Table.{type_of}
 use Rattle.tp_parse.specs.declared.table.OpType.{OpType}
 use Rattle.tp_parse.specs.declared.table.OpType.TheVariants.{Xfx, Xfy, Yfx, Fy, Fx}
 use Rattle.tp_clauses.specs.Directives.{allows}
 use Rattle.tp_clauses.specs.Told.{is_type_atom, allows_atom}
-use Rattle.tp_clauses.specs.Kinds.{is_atom, joins}
+use Rattle.tp_clauses.specs.Kinds.{is_atom}
 
 -- an atom is one of the start exactly where its name is
 pub is_atom-named : (names : List Name) → IsTable names → (a s : AtomId) (name : Name) → a.at < length names → slice_get start_names s.at ≡ Some name → names_eq (name_at names a.at) name ≡ is_atom a s
 is_atom-named names t a s name h e = names_eq-start names t a.at s.at name h e
-
-conjunction : slice_get start_names CONJUNCTION.at ≡ Some (codes ",")
-unfolding start_names
-conjunction = refl
-
-disjunction : slice_get start_names DISJUNCTION.at ≡ Some (codes ";")
-unfolding start_names
-disjunction = refl
-
-if_then : slice_get start_names IF_THEN.at ≡ Some (codes "->")
-unfolding start_names
-if_then = refl
-
-call : slice_get start_names CALL.at ≡ Some (codes "call")
-unfolding start_names
-call = refl
-
-pub joins-named : (names : List Name) → IsTable names → (a : AtomId) → a.at < length names → joins_goals (name_at names a.at) ≡ joins a
-joins-named names t a h =
-    let f = name_at names a.at in
-    ap (λ b. (b || names_eq f (codes ";")) || names_eq f (codes "->")) (is_atom-named names t a CONJUNCTION (codes ",") h conjunction)
-    ∙ ap (λ b. (is_atom a CONJUNCTION || b) || names_eq f (codes "->")) (is_atom-named names t a DISJUNCTION (codes ";") h disjunction)
-    ∙ ap (λ b. (is_atom a CONJUNCTION || is_atom a DISJUNCTION) || b) (is_atom-named names t a IF_THEN (codes "->") h if_then)
-
-pub call-named : (names : List Name) → IsTable names → name_at names CALL.at ≡ codes "call"
-call-named names t = start-name_at names t CALL.at (codes "call") call
 
 pub call-within : (names : List Name) → IsTable names → CALL.at < length names
 call-within names t = start-within names t CALL.at (lit< tt)

@@ -1,11 +1,9 @@
 pub mod IndexLemmas
 pub mod MovedLemmas
 pub mod KindLemmas
-pub mod BodyLemmas
 pub mod DirectiveLemmas
 pub mod PartsLemmas
 pub mod LoadLemmas
-pub mod ReservedLemmas
 pub mod OccursLemmas
 pub mod TermLemmas
 pub mod ReadingLemmas

@@ -1,6 +1,7 @@
 -- A text is read on: what stood and what remains is one model.
-use Rattle.std.proofs.Common.{◌≡◌, ℕ, zero, suc, ◌+◌, ◌<◌, ◌≤◌, List, [], ◌∷◌, ◌++◌, length, map, Option, Some, None, option_map, Result, Ok, Err, refl, sym, ap, subst, ◌∙◌, arith, append-nil, append_assoc}
-use Rattle.std.specs.Str.{IsCharBoundary}
+use Rattle.std.proofs.Common.{◌≡◌, ℕ, zero, suc, ◌+◌, ◌<◌, true, List, [], ◌∷◌, length, map, Option, Some, None, option_map, Result, Ok, Err, refl, sym, ap, subst, ◌∙◌, arith, append-nil}
+use Rattle.std.specs.Result.{is_ok}
+use Rattle.std.specs.Str.{IsUtf8, IsCharBoundary}
 use Rattle.tp_terms.specs.declared.cells.Cell.{Cell}
 use Rattle.tp_terms.specs.declared.cells.Ref.{Ref}
 use Rattle.tp_terms.specs.Term.{Name}
@@ -9,16 +10,17 @@ use Rattle.tp_terms.specs.Shown.{shows, AreNamed}
 use Rattle.tp_terms.proofs.NameLemmas.{Grows-shows, Grows-length}
 use Rattle.tp_terms.proofs.ShownLemmas.{AreNamed-longer}
 use Rattle.tp_lex.specs.Next.{next}
-use Rattle.tp_lex.specs.declared.token.Token.{Token}
+use Rattle.tp_lex.specs.Tokens.{ToEnd}
 use Rattle.tp_lex.specs.declared.token.LexFault.{LexFault}
+use Rattle.tp_lex.proofs.TokensLemmas.{tokens-next}
 use Rattle.tp_parse.specs.Ops.{table_of}
 use Rattle.tp_parse.specs.Table.{Table, start_table}
-use Rattle.tp_parse.specs.Texts.{clause_of}
-use Rattle.tp_meaning.specs.Clauses.{Base}
-use Rattle.tp_clauses.specs.Model.{Model, Refusal, Rest, model_from, most_terms, by_read, by_token, refusal}
+use Rattle.tp_parse.specs.Texts.{clause_of, clause_in, refused_token}
+use Rattle.tp_clauses.specs.Model.{Model, Refusal, model_from, most_terms, by_read, by_token, refused_read}
 use Rattle.tp_clauses.specs.Contents.{base_of, clause_of as clause_at, clause_by}
+use Rattle.tp_clauses.specs.Loaded.{AsksMemory, Begin, Comes}
 use Rattle.tp_clauses.specs.Parts.{IsParts, IsEmpty, contents_of}
-use Rattle.tp_clauses.specs.Told.{after, Steps, TellsStep, TellsParts, TellsEnd, Holds}
+use Rattle.tp_clauses.specs.Told.{after, Steps, TellsBegin, TellsStep, TellsParts, TellsEnd, Holds}
 use Rattle.tp_clauses.specs.declared.base.ClauseView.{ClauseView}
 use Rattle.tp_clauses.specs.declared.parts.Parts.{Parts}
 use Rattle.tp_clauses.specs.declared.fault.LoadFault.{LoadFault}
@@ -34,7 +36,8 @@ pub record IsLoading (names : List Name) (text : List ℕ) (at before : ℕ) (p 
   pub all : left + before ≡ most_terms
   pub place : IsCharBoundary text at
   pub parts : IsParts p
-  pub named : AreNamed (length names) p.cells.items
+  pub named : AreNamed (length names) p.store.cells
+  pub comes : Comes text (before + 1) (table_of p.ops) at
   pub model : after (base_of names (contents_of p)) (model_from left (before + 1) text (table_of p.ops) at) ≡ model_from most_terms 1 text start_table 0
 
 pub after-none : (r : Result Model Refusal) → after [] r ≡ r
@@ -48,8 +51,9 @@ loading_start names text p e b = record {
   place = b;
   parts = e.parts;
   named = subst (AreNamed (length names)) (sym e.cells) tt;
+  comes = subst (λ t. Comes text (0 + 1) t 0) (sym e.ops) (subst (λ n. Comes text n start_table 0) (let z : 1 ≡ 0 + 1 = omega arith in z) Begin);
   model =
-      ap (λ vs. after (map (clause_at names p.cells.items) vs) (model_from most_terms (0 + 1) text (table_of p.ops) 0)) e.clauses
+      ap (λ vs. after (map (clause_at names p.store.cells) vs) (model_from most_terms (0 + 1) text (table_of p.ops) 0)) e.clauses
       ∙ after-none (model_from most_terms (0 + 1) text (table_of p.ops) 0)
       ∙ ap (λ t. model_from most_terms (0 + 1) text t 0) e.ops
       ∙ ap (λ n. model_from most_terms n text start_table 0) (let z : 0 + 1 ≡ 1 = omega arith in z);
@@ -90,7 +94,7 @@ module _ (old new : List Name) (text : List ℕ) (at before : ℕ) (p : Parts) (
     more,
     (
       omega arith,
-      ap (λ b. after b (by_read (model_from more (before + 1 + 1) text) (before + 1) (table_of p.ops) (clause_of (table_of p.ops) text at))) (base-grows old new g p.cells.items h.named p.clauses.items)
+      ap (λ b. after b (by_read (model_from more (before + 1 + 1) text) (before + 1) (table_of p.ops) (clause_of (table_of p.ops) text at))) (base-grows old new g p.store.cells h.named p.clauses.items)
           ∙ ap (after (base_of old (contents_of p))) (sym (model_from-more more (before + 1) text (table_of p.ops) at)) ∙ m,
     ),
   )
@@ -102,6 +106,7 @@ module _ (old new : List Name) (text : List ℕ) (at before : ℕ) (p : Parts) (
     place = s.place;
     parts = s.parts;
     named = s.named;
+    comes = s.comes h.comes;
     model = sym (s.model (model_from k.0 (before + 1 + 1) text)) ∙ k.1.1;
   }
 
@@ -111,7 +116,7 @@ module _ (old new : List Name) (text : List ℕ) (at before : ℕ) (p : Parts) (
       (record {
         model = sym k.1.1 ∙ ap (λ r. after (base_of new (contents_of p)) (by_read (model_from k.0 (before + 1 + 1) text) (before + 1) (table_of p.ops) r)) n.0
             ∙ ap (λ c. let r : Result Model Refusal = Ok (record { clauses = c; table = table_of p.ops }) in r) (append-nil (base_of new (contents_of p)));
-        named = named-grows old new g p.cells.items h.named;
+        named = named-grows old new g p.store.cells h.named;
       })
 
   pub loading_err : (q : Parts) (fault : LoadFault) (result : Result Parts LoadFault) → result ≡ Err fault → TellsStep new p q text at (before + 1) (Err fault) → TellsParts new result (model_from most_terms 1 text start_table 0)
@@ -143,3 +148,37 @@ module _ (names : List Name) (text : List ℕ) (at before : ℕ) (p : Parts) (h 
       go : (fault : LoadFault) → TellsEnd {A = A} number (Err fault) (next text at) → TellsParts names (Err fault) (model_from most_terms 1 text start_table 0)
       go (Refused clause byte c) s = sym ended ∙ ap (λ m. after (base_of names (contents_of p)) (by_token m (table_of p.ops) (next text at))) (sym n) ∙ ap (after (base_of names (contents_of p))) (s (table_of p.ops))
       go NoMemory s = absurd s
+
+-- ---- the first token
+
+-- where it is refused, the clause is, for its cause
+pub clause-refused : (ops : Table) (text : List ℕ) (at : ℕ) (fault : LexFault) → IsUtf8 text → IsCharBoundary text at → next text at ≡ Err fault → clause_of ops text at ≡ Err (refused_token fault)
+unfolding clause_of
+clause-refused ops text at fault u b e = ap (clause_in ops (length text)) (tokens-next ToEnd text at None (Err fault) u b e)
+
+first-refused : (text : List ℕ) (fault : LexFault) → IsUtf8 text → IsCharBoundary text 0 → next text 0 ≡ Err fault → (n : ℕ) → n ≡ most_terms → model_from n 1 text start_table 0 ≡ Err (refused_read 1 (refused_token fault))
+first-refused text fault u b e zero is = absurd (omega (arith, most))
+first-refused text fault u b e (suc more) is = model_from-more more 1 text start_table 0 ∙ ap (by_read (model_from more (1 + 1) text) 1 start_table) (clause-refused start_table text 0 fault u b e)
+
+pub begun_err : (names : List Name) (text : List ℕ) (fault : LoadFault) (result : Result Parts LoadFault) → IsUtf8 text → IsCharBoundary text 0 → result ≡ Err fault → TellsBegin (Err fault) (next text 0) → TellsParts names result (model_from most_terms 1 text start_table 0)
+begun_err names text fault result u b e told = subst (λ (x : Result Parts LoadFault). TellsParts names x (model_from most_terms 1 text start_table 0)) (sym e) (go fault told)
+  where
+    go : (fault : LoadFault) → TellsBegin (Err fault) (next text 0) → TellsParts names (Err fault) (model_from most_terms 1 text start_table 0)
+    go (Refused clause byte c) told = first-refused text told.0 u b told.1 most_terms refl ∙ ap Err (sym told.2)
+    go NoMemory told = tt
+
+-- ---- want of memory
+
+pub fault_same : (A B : Type 0) (f g : LoadFault) → ◌≡◌ {A = Result A LoadFault} (Err f) (Err g) → ◌≡◌ {A = Result B LoadFault} (Err f) (Err g)
+fault_same A B f g e = let h : f ≡ g = cc in ap Err h
+
+pub begun_memory : (text : List ℕ) (fault : LoadFault) → TellsBegin (Err fault) (next text 0) → ◌≡◌ {A = Result Parts LoadFault} (Err fault) (Err NoMemory) → AsksMemory text
+begun_memory text (Refused clause byte c) told e = absurd (cc)
+begun_memory text NoMemory told e = record { number = 1; ops = start_table; at = 0; comes = Begin; few = omega (arith, most); token = told }
+
+pub loading_memory : (names : List Name) (text : List ℕ) (at before : ℕ) (p : Parts) → IsLoading names text at before p → before < most_terms → is_ok (next text at) ≡ true → AsksMemory text
+loading_memory names text at before p h l ahead = record { number = before + 1; ops = table_of p.ops; at = at; comes = h.comes; few = omega arith; token = ahead }
+
+pub ended_memory : (A : Type 0) (number : ℕ) (text : List ℕ) (at : ℕ) (fault : LoadFault) → TellsEnd {A = A} number (Err fault) (next text at) → ◌≡◌ {A = Result Parts LoadFault} (Err fault) (Err NoMemory) → AsksMemory text
+ended_memory A number text at (Refused clause byte c) told e = absurd (cc)
+ended_memory A number text at NoMemory told e = absurd told

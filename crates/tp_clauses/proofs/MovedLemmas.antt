@@ -1,13 +1,13 @@
 -- Cells that are moved behind others show what they showed.
-use Rattle.std.proofs.Common.{◌≡◌, ℕ, zero, suc, ◌+◌, ◌-◌, ◌<◌, ◌≤◌, ◌^◌, List, [], ◌∷◌, ◌++◌, length, map, take, Some, slice_get, get_or, refl, sym, ap, subst, ◌∙◌, arith, append_assoc, length-append}
-use Rattle.std.proofs.lemmas.List.{get_or_append_left, take_more, map-append, length-map, length-take-le}
+use Rattle.std.proofs.Common.{◌≡◌, ℕ, zero, suc, ◌+◌, ◌-◌, ◌<◌, ◌≤◌, List, [], ◌∷◌, ◌++◌, length, map, take, Some, slice_get, get_or, refl, sym, ap, ◌∙◌, arith, append_assoc, length-append}
+use Rattle.std.proofs.lemmas.List.{take_more, map-append, length-map, length-take-le}
 use Rattle.std.proofs.lemmas.Option.{slice_get_within, get_or_from_slice_get}
 use Rattle.tp_terms.specs.declared.cells.Cell.{Cell}
 use Rattle.tp_terms.specs.declared.cells.Cell.TheVariants as cell
-use Rattle.tp_terms.specs.Term.{Name, Term, Atom, Comp, More, occurs}
-use Rattle.tp_terms.specs.Shown.{name_at, shown_by, terms_from, terms, shows, row_at, StandsBefore, IsNamed, AreNamed}
+use Rattle.tp_terms.specs.Term.{Name, Term, Atom, Comp, More}
+use Rattle.tp_terms.specs.Shown.{name_at, shown_by, terms_from, terms, shows, row_at, IsNamed, AreNamed}
 use Rattle.tp_terms.proofs.ShownLemmas.{length-terms}
-use Rattle.tp_clauses.specs.Moved.{moved, place_on, CanMove}
+use Rattle.tp_clauses.specs.Moved.{moved}
 
 get_or-behind : {X : Type 0} (xs ys : List X) (i : ℕ) (d : X) → get_or (xs ++ ys) (i + length xs) d ≡ get_or ys i d
 get_or-behind [] ys i d = ap (λ n. get_or ys n d) (let e : i + 0 ≡ i = omega arith in e)

@@ -1,12 +1,11 @@
 -- Which variables occur in what a place shows: the table of names doesn't matter, nor does the conversion to a body.
-use Rattle.std.proofs.Common.{◌≡◌, ℕ, zero, suc, ◌+◌, ◌<◌, ◌≤◌, Bool, true, false, ◌||◌, List, [], ◌∷◌, ◌++◌, length, map, get_or, Option, Some, None, refl, sym, ap, ◌∙◌, arith, if◌then◌else◌, codes}
+use Rattle.std.proofs.Common.{◌≡◌, ℕ, zero, suc, Bool, true, false, ◌||◌, List, [], ◌∷◌, ◌++◌, map, get_or, Option, Some, None, refl, sym, ap, ◌∙◌, if◌then◌else◌, codes}
 use Rattle.std.proofs.lemmas.List.{map-append}
 use Rattle.tp_terms.specs.declared.cells.Cell.{Cell}
 use Rattle.tp_terms.specs.declared.cells.Cell.TheVariants as cell
-use Rattle.tp_terms.specs.Term.{Name, Term, Terms, Var, Int, Atom, Comp, NoMore, More, occurs, occurs_in}
+use Rattle.tp_terms.specs.Term.{Name, Term, Var, Int, Atom, Comp, NoMore, More, occurs, occurs_in}
 use Rattle.tp_terms.specs.Shown.{shows, shown_by, terms_from, terms, row_at}
 use Rattle.tp_meaning.specs.Body.{body, joins_goals, pair_body}
-use Rattle.tp_meaning.specs.Valid.{Below, AllBelow}
 
 get_or-map : {X Y : Type 0} (f : X → Y) (xs : List X) (i : ℕ) (d : X) → f (get_or xs i d) ≡ get_or (map f xs) i (f d)
 get_or-map f [] i d = refl

@@ -1,34 +1,40 @@
 -- One clause more behind the others.
-use Rattle.std.proofs.Common.{◌≡◌, ℕ, zero, suc, ◌+◌, ◌<◌, ◌≤◌, ◌^◌, nat_eq, Bool, true, false, ◌&&◌, List, [], ◌∷◌, ◌++◌, length, map, slice_get, get_or, Option, Some, None, option_map, IfSome, Result, Ok, Err, cond, refl, sym, ap, subst, ◌∙◌, arith, append_assoc, append-nil, length-append, if◌then◌else◌}
+use Rattle.std.proofs.Common.{◌≡◌, ℕ, zero, suc, ◌+◌, ◌<◌, nat_eq, Bool, true, false, ◌&&◌, List, [], ◌∷◌, ◌++◌, length, map, slice_get, Option, Some, None, option_map, IfSome, refl, sym, ap, subst, ◌∙◌, arith, length-append, if◌then◌else◌, Result, Ok, Err, IfOk, OnOk}
 use Rattle.std.specs.List.{All}
-use Rattle.std.proofs.lemmas.Bool.{eqb-true, eq-eqb, eqb-false}
+use Rattle.std.proofs.lemmas.Bool.{eqb-true, eqb-false}
 use Rattle.std.proofs.lemmas.List.{map-append, length-map}
-use Rattle.std.proofs.lemmas.List.Elements.{All-head, All-tail, All-push, All-weaker, All-nil}
+use Rattle.std.proofs.lemmas.List.Elements.{All-head, All-tail, All-push, All-weaker}
 use Rattle.tp_terms.specs.declared.cells.Cell.{Cell}
 use Rattle.tp_terms.specs.declared.cells.Cell.TheVariants as cell
 use Rattle.tp_terms.specs.declared.cells.Ref.{Ref}
 use Rattle.tp_terms.specs.declared.cells.AtomId.{AtomId}
-use Rattle.tp_terms.specs.Term.{Name, Term, Terms, occurs}
+use Rattle.tp_terms.specs.Term.{Name, occurs}
 use Rattle.tp_terms.specs.Shown.{shows, AreBuilt, AreNamed}
-use Rattle.tp_terms.proofs.ShownLemmas.{shows-append, AreNamed-append}
+use Rattle.tp_terms.proofs.ShownLemmas.{shows-append}
 use Rattle.tp_terms.proofs.NameLemmas.{slice_get-append}
-use Rattle.tp_meaning.specs.Clauses.{Clause}
-use Rattle.tp_clauses.specs.Contents.{Contents, IsBase, ViewFits, IsHead, AreBelow, base_of, clause_of, clause_by, is_of, is_of_by, places_from, places_of}
+use Rattle.tp_clauses.specs.Contents.{ViewFits, IsHead, AreBelow, clause_of, clause_by, base_of, is_of, is_of_by, places_from}
 use Rattle.tp_clauses.specs.Indexed.{ids_in, same_key}
-use Rattle.tp_clauses.specs.Kinds.{head_key, free_key, is_reserved_atom}
+use Rattle.tp_clauses.specs.Kinds.{key_of}
 use Rattle.tp_clauses.specs.Moved.{moved, moved_view, place_on}
-use Rattle.tp_clauses.specs.Parts.{contents_of, IsParts, AddsClause}
+use Rattle.tp_clauses.specs.Parts.{IsParts, AddsClause, Longer, contents_of}
+use Rattle.tp_clauses.specs.Bodies.{TellsBody}
+use Rattle.tp_clauses.specs.declared.index.Index.{Index}
+use Rattle.tp_store.specs.Contents.{Contents, AddsCells, IsStore, chained, seen}
+use Rattle.tp_meaning.specs.Body.{body}
+use Rattle.tp_meaning.specs.Subst.{apply}
+use Rattle.tp_meaning.proofs.Applied.{apply-empty}
+use Rattle.tp_terms.specs.Names.{IsTable}
+use Rattle.tp_terms.specs.declared.symbols.TheConstants.{CALL}
+use Rattle.tp_clauses.proofs.KindLemmas.{call-within}
 use Rattle.tp_clauses.specs.declared.base.ClauseId.{ClauseId}
 use Rattle.tp_clauses.specs.declared.base.ClauseView.{ClauseView}
 use Rattle.tp_clauses.specs.declared.kind.Key.{Key}
-use Rattle.tp_clauses.specs.declared.fault.Cause.{Cause}
-use Rattle.tp_clauses.specs.declared.fault.Cause.TheVariants as cause
 use Rattle.tp_clauses.specs.declared.parts.Parts.{Parts}
-use Rattle.tp_clauses.proofs.MovedLemmas.{shows-moved, AreNamed-moved}
+use Rattle.tp_clauses.proofs.MovedLemmas.{shows-moved}
 
 -- ---- cells
 
-slice_get-behind : (cs : List Cell) (f : Cell → Cell) (ds : List Cell) (i : ℕ) → slice_get (cs ++ map f ds) (i + length cs) ≡ option_map f (slice_get ds i)
+pub slice_get-behind : (cs : List Cell) (f : Cell → Cell) (ds : List Cell) (i : ℕ) → slice_get (cs ++ map f ds) (i + length cs) ≡ option_map f (slice_get ds i)
 slice_get-behind [] f ds i = ap (λ n. slice_get (map f ds) n) (let e : i + 0 ≡ i = omega arith in e) ∙ mapped ds i
   where
     mapped : (ds : List Cell) (i : ℕ) → slice_get (map f ds) i ≡ option_map f (slice_get ds i)
@@ -37,19 +43,12 @@ slice_get-behind [] f ds i = ap (λ n. slice_get (map f ds) n) (let e : i + 0 �
     mapped (d ∷ ds) (suc i) = mapped ds i
 slice_get-behind (c ∷ cs) f ds i = ap (λ n. slice_get (c ∷ (cs ++ map f ds)) n) (let e : i + suc (length cs) ≡ suc (i + length cs) = omega arith in e) ∙ slice_get-behind cs f ds i
 
-IsHead-moved : (by : ℕ) (o : Option Cell) → IsHead o → IsHead (option_map (moved by) o)
+pub IsHead-moved : (by : ℕ) (o : Option Cell) → IsHead o → IsHead (option_map (moved by) o)
 IsHead-moved by None h = h
 IsHead-moved by (Some (cell.Var v)) h = h
 IsHead-moved by (Some (cell.Int z)) h = h
 IsHead-moved by (Some (cell.Atom a)) h = h
 IsHead-moved by (Some (cell.Comp f first k)) h = h
-
-is_of-moved : (name : AtomId) (arity by : ℕ) (o : Option Cell) → is_of_by name arity (option_map (moved by) o) ≡ is_of_by name arity o
-is_of-moved name arity by None = refl
-is_of-moved name arity by (Some (cell.Var v)) = refl
-is_of-moved name arity by (Some (cell.Int z)) = refl
-is_of-moved name arity by (Some (cell.Atom a)) = refl
-is_of-moved name arity by (Some (cell.Comp f first k)) = refl
 
 -- a clause of the first cells fits the longer ones
 fits_longer : (cs ds : List Cell) (v : ClauseView) → ViewFits cs v → ViewFits (cs ++ ds) v
@@ -65,7 +64,7 @@ fits_longer cs ds v h = record {
     go (Some place) k = (let l = k.0 in omega (arith, length-append cs ds), λ x e. k.1 x (ap (occurs x) (sym (shows-append [] cs ds place.at k.0)) ∙ e))
 
 -- and one of the others fits them, moved on
-fits_moved : (cs ds : List Cell) (v : ClauseView) → ViewFits ds v → ViewFits (cs ++ map (moved (length cs)) ds) (moved_view (length cs) v)
+pub fits_moved : (cs ds : List Cell) (v : ClauseView) → ViewFits ds v → ViewFits (cs ++ map (moved (length cs)) ds) (moved_view (length cs) v)
 fits_moved cs ds v h = record {
   head = within v.head.at h.head;
   named = subst (λ o. IsHead o) (sym (slice_get-behind cs (moved (length cs)) ds v.head.at)) (IsHead-moved (length cs) (slice_get ds v.head.at) h.named);
@@ -92,7 +91,7 @@ clause_longer names cs ds v h =
     go None k = refl
     go (Some place) k = ap Some (shows-append names cs ds place.at k.0)
 
-clause_moved : (names : List Name) (cs ds : List Cell) (v : ClauseView) → clause_of names (cs ++ map (moved (length cs)) ds) (moved_view (length cs) v) ≡ clause_of names ds v
+pub clause_moved : (names : List Name) (cs ds : List Cell) (v : ClauseView) → clause_of names (cs ++ map (moved (length cs)) ds) (moved_view (length cs) v) ≡ clause_of names ds v
 clause_moved names cs ds v =
     ap (λ t. clause_by t (option_map (λ place. shows names (cs ++ map (moved (length cs)) ds) place.at) (option_map (place_on (length cs)) v.body)) v.vars) (shows-moved names cs ds v.head.at)
     ∙ ap (λ b. clause_by (shows names ds v.head.at) b v.vars) (go v.body)
@@ -146,56 +145,124 @@ nat_eq-sym a b = go (nat_eq a b) refl (nat_eq b a) refl
     go true e false f = absurd (eqb-false b a f (sym (eqb-true a b e)))
     go false e true f = absurd (eqb-false a b e (sym (eqb-true b a f)))
 
-free_key_of : (a : AtomId) (k : ℕ) (key : Key) (name : AtomId) (arity : ℕ) → free_key a k ≡ Ok key → (nat_eq name.at a.at && nat_eq arity k) ≡ same_key key (record { name = name; arity = arity })
-free_key_of a k key name arity e = go (is_reserved_atom a k) e
-  where
-    go : (b : Bool) → ◌≡◌ {A = Result Key Cause} (if b then Err cause.Builtin else Ok (record { name = a; arity = k })) (Ok key) → (nat_eq name.at a.at && nat_eq arity k) ≡ same_key key (record { name = name; arity = arity })
-    go true h = absurd (cc)
-    go false h =
-        let same : ◌≡◌ {A = Key} (record { name = a; arity = k }) key = cc in
-        ap (λ b. b && nat_eq arity k) (nat_eq-sym name.at a.at) ∙ ap (λ b. nat_eq a.at name.at && b) (nat_eq-sym arity k) ∙ ap (λ (j : Key). same_key j (record { name = name; arity = arity })) same
+named : (a : AtomId) (k : ℕ) (key : Key) (name : AtomId) (arity : ℕ) → record { name = a; arity = k } ≡ key → (nat_eq name.at a.at && nat_eq arity k) ≡ same_key key (record { name = name; arity = arity })
+named a k key name arity same =
+    ap (λ b. b && nat_eq arity k) (nat_eq-sym name.at a.at) ∙ ap (λ b. nat_eq a.at name.at && b) (nat_eq-sym arity k) ∙ ap (λ (j : Key). same_key j (record { name = name; arity = arity })) same
 
 -- the key of a head is the one that its cell is of
-pub key_of : (o : Option Cell) (key : Key) (name : AtomId) (arity : ℕ) → head_key o ≡ Ok key → is_of_by name arity o ≡ same_key key (record { name = name; arity = arity })
-key_of None key name arity e = absurd (cc)
-key_of (Some (cell.Var v)) key name arity e = absurd (cc)
-key_of (Some (cell.Int z)) key name arity e = absurd (cc)
-key_of (Some (cell.Atom a)) key name arity e = free_key_of a 0 key name arity e
-key_of (Some (cell.Comp f first k)) key name arity e = free_key_of f k key name arity e
+pub key_is : (o : Option Cell) (key : Key) (name : AtomId) (arity : ℕ) → key_of o ≡ Some key → is_of_by name arity o ≡ same_key key (record { name = name; arity = arity })
+key_is None key name arity e = absurd (cc)
+key_is (Some (cell.Var v)) key name arity e = absurd (cc)
+key_is (Some (cell.Int z)) key name arity e = absurd (cc)
+key_is (Some (cell.Atom a)) key name arity e = named a 0 key name arity (cc)
+key_is (Some (cell.Comp f first k)) key name arity e = named f k key name arity (cc)
+
+key_of-moved : (by : ℕ) (o : Option Cell) → key_of (option_map (moved by) o) ≡ key_of o
+key_of-moved by None = refl
+key_of-moved by (Some (cell.Var v)) = refl
+key_of-moved by (Some (cell.Int z)) = refl
+key_of-moved by (Some (cell.Atom a)) = refl
+key_of-moved by (Some (cell.Comp f first k)) = refl
+
+-- a cell that was moved on has the same key
+pub key_behind : (cs ds : List Cell) (at : ℕ) → key_of (slice_get (cs ++ map (moved (length cs)) ds) (at + length cs)) ≡ key_of (slice_get ds at)
+key_behind cs ds at = ap key_of (slice_get-behind cs (moved (length cs)) ds at) ∙ key_of-moved (length cs) (slice_get ds at)
+
+-- ---- further cells
+
+pub parts_longer : (old new : Parts) (more : List Cell) → IsParts old → new.store.cells ≡ old.store.cells ++ more → new.clauses.items ≡ old.clauses.items → new.index ≡ old.index → new.ops ≡ old.ops → new.store.pairs ≡ old.store.pairs → AreBuilt new.store.cells → Longer old new more
+parts_longer old new more ok cells clauses same_index ops pairs built =
+    let cs = old.store.cells in
+    let vs = old.clauses.items in
+    let fit : All (ViewFits cs) vs = (ok.base).clauses in
+    let longer : All (ViewFits (cs ++ more)) vs = All-weaker (ViewFits cs) (ViewFits (cs ++ more)) (λ x. fits_longer cs more x) vs fit in
+    record {
+      parts = record {
+        base = record { built = built; clauses = subst (λ (l : List ClauseView). All (ViewFits new.store.cells) l) (sym clauses) (subst (λ (l : List Cell). All (ViewFits l) vs) (sym cells) longer) };
+        index = λ name arity.
+            ap (λ (i : Index). ids_in i (record { name = name; arity = arity })) same_index ∙ ok.index name arity
+            ∙ sym (places_longer name arity cs more 0 vs fit)
+            ∙ ap (λ l. places_from name arity l 0 vs) (sym cells) ∙ ap (λ l. places_from name arity new.store.cells 0 l) (sym clauses);
+        unbound = pairs ∙ ok.unbound;
+      };
+      cells = cells;
+      clauses = clauses;
+      ops = ops;
+    }
+
+-- the clauses stay the same
+pub longer_base : (old new : Parts) (more : List Cell) → IsParts old → Longer old new more → (names : List Name) → base_of names (contents_of new) ≡ base_of names (contents_of old)
+longer_base old new more ok l names =
+    ap (λ cs. map (clause_of names cs) new.clauses.items) l.cells
+    ∙ ap (map (clause_of names (old.store.cells ++ more))) l.clauses
+    ∙ clauses_longer names old.store.cells more old.clauses.items (ok.base).clauses
 
 -- ---- one clause more
 
-pub clause_added : (old new : Parts) (cells : List Cell) (v : ClauseView) (key : Key) → IsParts old → ViewFits cells v → head_key (slice_get cells v.head.at) ≡ Ok key
-    → new.cells.items ≡ old.cells.items ++ map (moved (length old.cells.items)) cells
-    → new.clauses.items ≡ old.clauses.items ++ moved_view (length old.cells.items) v ∷ []
+pub clause_added : (old new : Parts) (v : ClauseView) (key : Key) → IsParts old → ViewFits old.store.cells v → key_of (slice_get old.store.cells v.head.at) ≡ Some key
+    → new.store ≡ old.store
+    → new.clauses.items ≡ old.clauses.items ++ v ∷ []
     → ((k : Key) → ids_in new.index k ≡ (if same_key key k then ids_in old.index k ++ id_at (length old.clauses.items) ∷ [] else ids_in old.index k))
-    → new.ops ≡ old.ops → AreBuilt new.cells.items → AddsClause old new cells v
-clause_added old new cells v key ok fits is added pushed indexed ops built =
-    let cs = old.cells.items in
-    let ds = map (moved (length old.cells.items)) cells in
-    let w = moved_view (length old.cells.items) v in
+    → new.ops ≡ old.ops → AddsClause old new v
+clause_added old new v key ok fits is store pushed indexed ops =
+    let cs = old.store.cells in
     let vs = old.clauses.items in
-    let old_fit : All (ViewFits cs) vs = (ok.base).clauses in
-    let new_fit : All (ViewFits (cs ++ ds)) (vs ++ w ∷ []) = All-push (ViewFits (cs ++ ds)) vs w (All-weaker (ViewFits cs) (ViewFits (cs ++ ds)) (λ x. fits_longer cs ds x) vs old_fit) (fits_moved cs cells v fits) in
+    let cells : new.store.cells ≡ cs = ap (λ (s : Contents). s.cells) store in
+    let fit : All (ViewFits cs) (vs ++ v ∷ []) = All-push (ViewFits cs) vs v (ok.base).clauses fits in
     record {
       parts = record {
-        base = record { built = built; clauses = subst (λ (l : List ClauseView). All (ViewFits new.cells.items) l) (sym pushed) (subst (λ (l : List Cell). All (ViewFits l) (vs ++ w ∷ [])) (sym added) new_fit) };
+        base = record {
+          built = subst (λ (l : List Cell). AreBuilt l) (sym cells) (ok.base).built;
+          clauses = subst (λ (l : List ClauseView). All (ViewFits new.store.cells) l) (sym pushed) (subst (λ (l : List Cell). All (ViewFits l) (vs ++ v ∷ [])) (sym cells) fit);
+        };
         index = λ name arity.
             indexed (record { name = name; arity = arity })
             ∙ ap (λ l. if same_key key (record { name = name; arity = arity }) then l ++ id_at (length vs) ∷ [] else l) (ok.index name arity)
-            ∙ ap (λ b. if b then places_from name arity cs 0 vs ++ id_at (length vs) ∷ [] else places_from name arity cs 0 vs) (sym (key_of (slice_get cells v.head.at) key name arity is))
-            ∙ ap (λ b. if b then places_from name arity cs 0 vs ++ id_at (length vs) ∷ [] else places_from name arity cs 0 vs) (sym (ap (is_of_by name arity) (slice_get-behind cs (moved (length cs)) cells v.head.at) ∙ is_of-moved name arity (length cs) (slice_get cells v.head.at)))
-            ∙ ap (λ n. if is_of name arity (cs ++ ds) w then places_from name arity cs 0 vs ++ id_at n ∷ [] else places_from name arity cs 0 vs) (let z : length vs ≡ 0 + length vs = omega arith in z)
-            ∙ ap (λ l. if is_of name arity (cs ++ ds) w then l ++ id_at (0 + length vs) ∷ [] else l) (sym (places_longer name arity cs ds 0 vs old_fit))
-            ∙ sym (places_push name arity (cs ++ ds) 0 vs w)
-            ∙ ap (λ l. places_from name arity l 0 (vs ++ w ∷ [])) (sym added)
-            ∙ ap (λ l. places_from name arity new.cells.items 0 l) (sym pushed);
+            ∙ ap (λ b. if b then places_from name arity cs 0 vs ++ id_at (length vs) ∷ [] else places_from name arity cs 0 vs) (sym (key_is (slice_get cs v.head.at) key name arity is))
+            ∙ ap (λ n. if is_of name arity cs v then places_from name arity cs 0 vs ++ id_at n ∷ [] else places_from name arity cs 0 vs) (let z : length vs ≡ 0 + length vs = omega arith in z)
+            ∙ sym (places_push name arity cs 0 vs v)
+            ∙ ap (λ l. places_from name arity l 0 (vs ++ v ∷ [])) (sym cells)
+            ∙ ap (λ l. places_from name arity new.store.cells 0 l) (sym pushed);
+        unbound = ap (λ (s : Contents). s.pairs) store ∙ ok.unbound;
       };
+      cells = cells;
       ops = ops;
-      clauses = λ names.
-          ap (λ l. map (clause_of names l) new.clauses.items) added ∙ ap (map (clause_of names (cs ++ ds))) pushed
-          ∙ map-append (clause_of names (cs ++ ds)) vs (w ∷ [])
-          ∙ ap (λ l. l ++ clause_of names (cs ++ ds) w ∷ []) (clauses_longer names cs ds vs old_fit)
-          ∙ ap (λ c. map (clause_of names cs) vs ++ c ∷ []) (clause_moved names cs cells v);
-      named = λ n a b. subst (AreNamed n) (sym added) (AreNamed-append n cs ds a (AreNamed-moved n (length cs) cells b));
+      clauses = λ names. ap (λ l. map (clause_of names l) new.clauses.items) cells ∙ ap (map (clause_of names cs)) pushed ∙ map-append (clause_of names cs) vs (v ∷ []);
     }
+
+-- ---- bodies
+
+-- where nothing is bound, a place shows the same under the bindings
+seen_free : (names : List Name) (c : Contents) (at : ℕ) → c.pairs ≡ [] → seen names c at ≡ shows names c.cells at
+unfolding chained
+seen_free names c at e = ap (λ ps. apply (chained names c.cells ps) (shows names c.cells at)) e ∙ apply-empty (shows names c.cells at)
+
+seen_option : (names : List Name) (c : Contents) (o : Option Ref) → c.pairs ≡ [] → option_map (λ (r : Ref). seen names c r.at) o ≡ option_map (λ (r : Ref). shows names c.cells r.at) o
+seen_option names c None e = refl
+seen_option names c (Some r) e = ap Some (seen_free names c r.at e)
+
+pub body_told : (old new : Parts) (place : Ref) (found : Option Ref) → IsParts old → AddsCells old.store new.store → IsStore new.store → new.clauses.items ≡ old.clauses.items → new.index ≡ old.index → new.ops ≡ old.ops
+    → ((names : List Name) → IsTable names → AreNamed (length names) old.store.cells → option_map (λ (r : Ref). seen names new.store r.at) found ≡ body (seen names old.store place.at))
+    → IfSome found (λ at. at.at < length new.store.cells)
+    → ((n : ℕ) → CALL.at < n → AreNamed n old.store.cells → AreNamed n new.store.cells) → TellsBody old new place found
+body_told old new place found ok adds store clauses same_index ops shown within named = record {
+  more = adds.more;
+  longer = parts_longer old new adds.more ok adds.cells clauses same_index ops adds.pairs store.built;
+  within = within;
+  shown = λ names t h. record {
+    named = named (length names) (call-within names t) h;
+    same = ap body (sym (seen_free names old.store place.at ok.unbound)) ∙ sym (shown names t h) ∙ seen_option names new.store found (adds.pairs ∙ ok.unbound);
+  };
+}
+
+-- what the calls answer that add cells
+pub longer_ok : {A E : Type 0} (r : Result A E) (old new : Parts) (more : List Cell) → IsParts old → OnOk r (new.store.cells ≡ old.store.cells ++ more) → new.clauses.items ≡ old.clauses.items → new.index ≡ old.index → new.ops ≡ old.ops → new.store.pairs ≡ old.store.pairs → OnOk r (AreBuilt new.store.cells) → OnOk r (Longer old new more)
+longer_ok (Ok x) old new more ok cells clauses same_index ops pairs built = parts_longer old new more ok cells clauses same_index ops pairs built
+longer_ok (Err e) old new more ok cells clauses same_index ops pairs built = tt
+
+pub body_ok : {E : Type 0} (r : Result (Option Ref) E) (old new : Parts) (place : Ref) → IsParts old → AddsCells old.store new.store → IsStore new.store → new.clauses.items ≡ old.clauses.items → new.index ≡ old.index → new.ops ≡ old.ops
+    → IfOk r (λ found. (names : List Name) → IsTable names → AreNamed (length names) old.store.cells → option_map (λ (at : Ref). seen names new.store at.at) found ≡ body (seen names old.store place.at))
+    → IfOk r (λ found. IfSome found (λ at. at.at < length new.store.cells))
+    → OnOk r ((n : ℕ) → CALL.at < n → AreNamed n old.store.cells → AreNamed n new.store.cells) → IfOk r (TellsBody old new place)
+body_ok (Ok found) old new place ok adds store clauses same_index ops shown within named = body_told old new place found ok adds store clauses same_index ops shown within named
+body_ok (Err e) old new place ok adds store clauses same_index ops shown within named = tt

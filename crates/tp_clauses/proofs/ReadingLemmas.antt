@@ -1,10 +1,10 @@
 -- What is read from a byte on: it ends at a character's start, and its variables are below their number.
-use Rattle.std.proofs.Common.{◌≡◌, ℕ, zero, suc, ◌+◌, ◌<◌, ◌≤◌, Bool, true, false, ◌||◌, List, [], ◌∷◌, ◌++◌, length, Option, Some, None, Result, Ok, Err, refl, sym, ap, subst, ◌∙◌, arith, if◌then◌else◌, nat_eq, append_assoc}
+use Rattle.std.proofs.Common.{◌≡◌, ℕ, zero, suc, ◌+◌, ◌<◌, ◌≤◌, Bool, true, false, ◌||◌, List, [], ◌∷◌, ◌++◌, length, Option, Some, None, Result, Ok, Err, refl, sym, ap, subst, ◌∙◌, arith, if◌then◌else◌, append_assoc}
 use Rattle.std.specs.Prelude.{codes}
+use Rattle.std.specs.Result.{is_ok}
 use Rattle.std.specs.Str.{IsUtf8, IsCharBoundary}
 use Rattle.std.proofs.lemmas.Bool.{eqb-true}
-use Rattle.tp_terms.specs.Term as term
-use Rattle.tp_terms.specs.Term.{Name, Term, Terms, names_eq, occurs, occurs_in}
+use Rattle.tp_terms.specs.Term.{Name, names_eq, occurs, occurs_in}
 use Rattle.tp_terms.specs.Shown.{shows}
 use Rattle.tp_lex.specs.Next.{next}
 use Rattle.tp_lex.specs.Tokens.{Lexed, Reach, ToEnd, lexed, with_token, stops_at, tokens_by_next, tokens_up_to, tokens_from, tokens}
@@ -14,8 +14,8 @@ use Rattle.tp_lex.proofs.TokenLemmas.{given}
 use Rattle.tp_parse.specs.Table.{Table}
 use Rattle.tp_parse.specs.Ops.{table_of}
 use Rattle.tp_parse.specs.Tree.{Tree, Variable, Integer, Atom, Compound, Trees, none, first_of}
-use Rattle.tp_parse.specs.Reading.{Read, Stop, clause_reading}
-use Rattle.tp_parse.specs.Numbers.{Numbers, no_numbers, number_in, number_of, known_number, new_number, numbered, all_numbered}
+use Rattle.tp_parse.specs.Reading.{Read, clause_reading}
+use Rattle.tp_parse.specs.Numbers.{Numbers, no_numbers, number_in, number_of, known_number, numbered, all_numbered}
 use Rattle.tp_parse.specs.Texts.{Found, clause_of, clause_in, clause_by, found, found_by, last_byte, is_ended, refused, refused_token}
 use Rattle.tp_parse.specs.Texts as read
 use Rattle.tp_parse.specs.Tells.{Tells}
@@ -23,6 +23,7 @@ use Rattle.tp_parse.specs.declared.read.ReadTerm.{ReadTerm}
 use Rattle.tp_meaning.specs.Clauses.{Base}
 use Rattle.tp_clauses.specs.Contents.{AreBelow, base_of}
 use Rattle.tp_clauses.specs.Model.{Model, Refusal, Rest, Kind, Directive, OfClause, kind_of, by_kind, by_read, refusal, with_clause}
+use Rattle.tp_clauses.specs.Loaded.{Comes, PastDirective, PastClause}
 use Rattle.tp_clauses.specs.Parts.{contents_of}
 use Rattle.tp_clauses.specs.Told.{outcome, after, Taken, TellsRead, Steps, TellsStep}
 use Rattle.tp_clauses.specs.declared.parts.Parts.{Parts}
@@ -30,7 +31,7 @@ use Rattle.tp_clauses.specs.declared.fault.Cause.{Cause}
 use Rattle.tp_clauses.specs.declared.fault.LoadFault.{LoadFault}
 use Rattle.tp_clauses.specs.declared.fault.LoadFault.TheVariants.{Refused, NoMemory}
 use Rattle.tp_clauses.proofs.OccursLemmas.{occurs-names}
-use Rattle.tp_clauses.proofs.LoadLemmas.{after-none}
+use Rattle.tp_clauses.proofs.LoadLemmas.{after-none, clause-refused}
 
 -- ---- numbers of variables
 
@@ -202,6 +203,27 @@ after-after : (a b : Base) (r : Result Model Refusal) → after a (after b r) �
 after-after a b (Ok m) = ap (λ c. let r : Result Model Refusal = Ok (record { clauses = c; table = m.table }) in r) (sym (append_assoc a b m.clauses))
 after-after a b (Err r) = refl
 
+same_table : (t u : Table) (k l : Base) → ◌≡◌ {A = Result (Table × Base) Cause} (Ok (t, k)) (Ok (u, l)) → t ≡ u
+same_table t u k l e = let p : ◌≡◌ {A = Table × Base} (t, k) (u, l) = cc in ap (λ (q : Table × Base). q.0) p
+
+-- the definition comes past a read term that is taken
+come_on : (text : List ℕ) (n : ℕ) (ops changed : Table) (at : ℕ) (f : Found) (more : Base) → Comes text n ops at → clause_of ops text at ≡ Ok (Some f) → outcome ops (kind_of ops f.term f.vars) ≡ Ok (changed, more) → Comes text (n + 1) changed f.to
+come_on text n ops changed at f more h e adds = go (kind_of ops f.term f.vars) refl adds
+  where
+    go : (k : Kind) → kind_of ops f.term f.vars ≡ k → outcome ops k ≡ Ok (changed, more) → Comes text (n + 1) changed f.to
+    go (Directive None) k x = absurd (cc)
+    go (Directive (Some t)) k x = let same : t ≡ changed = same_table t changed [] more x in subst (λ u. Comes text (n + 1) u f.to) same (PastDirective n ops at f t h e k)
+    go (OfClause (Err c)) k x = absurd (cc)
+    go (OfClause (Ok c)) k x = let same : ops ≡ changed = same_table ops changed (c ∷ []) more x in subst (λ u. Comes text (n + 1) u f.to) same (PastClause n ops at f c h e k)
+
+-- where a clause stands, its first token isn't refused
+pub token_ahead : (ops : Table) (text : List ℕ) (at : ℕ) (f : Found) → IsUtf8 text → IsCharBoundary text at → clause_of ops text at ≡ Ok (Some f) → is_ok (next text at) ≡ true
+token_ahead ops text at f u b e = go (next text at) refl
+  where
+    go : (r : Result (Option Token) LexFault) → next text at ≡ r → is_ok (next text at) ≡ true
+    go (Ok found) k = ap is_ok k
+    go (Err fault) k = absurd (let x : Err (refused_token fault) ≡ Ok (Some f) = sym (clause-refused ops text at fault u b k) ∙ e in cc)
+
 module _ (names : List Name) (old new : Parts) (text : List ℕ) (at number : ℕ) (t : ReadTerm) (f : Found) (e : clause_of (table_of old.ops) text at ≡ Ok (Some f)) (tells : Tells names t f) where
   o : Result (Table × Base) Cause
   o = outcome (table_of old.ops) (kind_of (table_of old.ops) (shows names t.cells.items t.root.at) t.vars)
@@ -219,6 +241,10 @@ module _ (names : List Name) (old new : Parts) (text : List ℕ) (at number : �
     place = subst (IsCharBoundary text) (sym tells.to) (ends_at (table_of old.ops) text at f u b e);
     parts = taken.parts;
     named = taken.named;
+    comes = λ h. subst (λ n. Comes text (number + 1) (table_of new.ops) n) (sym tells.to)
+        (come_on text number (table_of old.ops) (table_of new.ops) at f taken.more h e
+        (ap (λ x. outcome (table_of old.ops) (kind_of (table_of old.ops) x f.vars)) (sym tells.term)
+        ∙ ap (λ x. outcome (table_of old.ops) (kind_of (table_of old.ops) (shows names t.cells.items t.root.at) x)) (sym tells.vars) ∙ taken.adds));
     model = λ rest.
         ap (after (base_of names (contents_of old))) (read_by rest ∙ ap (by_outcome rest number f) taken.adds)
         ∙ after-after (base_of names (contents_of old)) taken.more (rest (table_of new.ops) f.to)

@@ -1,5 +1,5 @@
 -- What a read term is, by its cells.
-use Rattle.std.proofs.Common.{◌≡◌, ℕ, zero, suc, ◌+◌, ◌<◌, ◌≤◌, nat_eq, Bool, true, false, ◌&&◌, ◌||◌, List, [], ◌∷◌, ◌++◌, length, slice_get, get_or, Option, Some, None, option_map, IfSome, Result, Ok, Err, refl, sym, ap, subst, ◌∙◌, arith, add-one, lit<, append-nil, length-append, if◌then◌else◌}
+use Rattle.std.proofs.Common.{map, append_assoc, ℤ, ◌≡◌, ℕ, zero, suc, ◌+◌, ◌<◌, nat_eq, Bool, true, false, ◌||◌, List, [], ◌∷◌, length, slice_get, Option, Some, None, Result, Ok, Err, refl, sym, ap, subst, ◌∙◌, arith, add-one, lit<, append-nil, length-append, if◌then◌else◌, ◌++◌, option_map, IfSome}
 use Rattle.std.specs.Prelude.{codes}
 use Rattle.std.proofs.lemmas.Bool.{eqb-true}
 use Rattle.tp_terms.specs.declared.cells.Cell.{Cell}
@@ -7,7 +7,7 @@ use Rattle.tp_terms.specs.declared.cells.Cell.TheVariants as cell
 use Rattle.tp_terms.specs.declared.cells.Ref.{Ref}
 use Rattle.tp_terms.specs.declared.cells.AtomId.{AtomId}
 use Rattle.tp_terms.specs.declared.symbols.TheConstants.{NECK, QUERY, GRAMMAR}
-use Rattle.tp_terms.specs.Term.{Name, Term, Terms, Var, Int, Atom, Comp, NoMore, More, names_eq, count_of, occurs, occurs_in}
+use Rattle.tp_terms.specs.Term.{Name, Term, Terms, Atom, Comp, NoMore, More, names_eq, count_of, occurs}
 use Rattle.tp_terms.specs.Shown.{name_at, shows, shown_from, args_at, StandsBefore, IsNamed, AreNamed, AreBuilt}
 use Rattle.tp_terms.proofs.ShownLemmas.{shows-cell, shows-append, AreNamed-cell}
 use Rattle.tp_terms.proofs.NameLemmas.{slice_get-append}
@@ -16,14 +16,18 @@ use Rattle.tp_parse.specs.Ops.{table_of}
 use Rattle.tp_parse.specs.declared.table.Ops.{Ops}
 use Rattle.tp_meaning.specs.Clauses.{Clause, Base}
 use Rattle.tp_meaning.specs.Body.{body}
-use Rattle.tp_clauses.specs.Reserved.{is_reserved}
+use Rattle.tp_meaning.specs.Goals.{is_reserved}
 use Rattle.tp_clauses.specs.Directives.{directive}
-use Rattle.tp_clauses.specs.Model.{Kind, Directive, OfClause, kind_of, unary_kind, binary_kind, with_head, headed, with_body, rule}
-use Rattle.tp_clauses.specs.Contents.{IsHead, ViewFits, AreBelow, clause_of, clause_by, base_of}
-use Rattle.tp_clauses.specs.Kinds.{is_atom, read_as, unary_read, binary_read, head_key, free_key, is_reserved_atom, behind}
-use Rattle.tp_clauses.specs.Standing.{HasNames}
+use Rattle.tp_clauses.specs.Model.{Kind, Directive, OfClause, kind_of, with_head, with_body, rule}
+use Rattle.tp_clauses.specs.Contents.{AreNameable, IsHead, ViewFits, AreBelow, clause_of, clause_by, base_of, HasNames}
+use Rattle.tp_clauses.specs.Kinds.{is_atom, read_as, unary_read, binary_read, head_key, key_of, behind}
 use Rattle.tp_clauses.specs.Bodies.{TellsBody}
-use Rattle.tp_clauses.specs.Parts.{IsParts, AddsClause, contents_of}
+use Rattle.tp_clauses.specs.Parts.{IsParts, AddsClause, Longer, contents_of}
+use Rattle.tp_clauses.specs.Moved.{moved, moved_view}
+use Rattle.tp_clauses.proofs.MovedLemmas.{shows-moved, AreNamed-moved}
+use Rattle.tp_clauses.proofs.PartsLemmas.{fits_moved, clause_moved, key_behind, longer_base}
+use Rattle.std.proofs.lemmas.List.{length-map}
+use Rattle.tp_terms.proofs.ShownLemmas.{AreNamed-append}
 use Rattle.tp_clauses.specs.Told.{outcome, Taken, TellsTerm, TellsDirective}
 use Rattle.tp_clauses.specs.declared.base.ClauseView.{ClauseView}
 use Rattle.tp_clauses.specs.declared.parts.Parts.{Parts}
@@ -35,7 +39,6 @@ use Rattle.tp_clauses.specs.declared.fault.Cause.TheVariants as cause
 use Rattle.tp_clauses.specs.declared.directive.TermFault.{TermFault}
 use Rattle.tp_clauses.specs.declared.directive.TermFault.TheVariants.{Refused, NoMemory}
 use Rattle.tp_clauses.proofs.KindLemmas.{is_atom-named, neck, query, grammar}
-use Rattle.tp_clauses.proofs.ReservedLemmas.{reserved-named}
 use Rattle.tp_clauses.proofs.OccursLemmas.{occurs-names, occurs-body}
 use Rattle.tp_clauses.proofs.DirectiveLemmas.{cell_at}
 
@@ -174,37 +177,34 @@ abbrev pub HeadIs : List Name → List Cell → Term → Result Key Cause → Ty
 HeadIs names cells t (Err c) = (vars : ℕ) (b : Option Term) → with_head t vars b ≡ Err c
 HeadIs names cells t (Ok key) = (vars : ℕ) (b : Option Term) → with_head t vars b ≡ Ok (clause_by t b vars)
 
-pub head_told : (names : List Name) (cells : List Cell) → HasNames names cells → AreBuilt cells → (at : ℕ) → at < length cells → HeadIs names cells (shows names cells at) (head_key (slice_get cells at))
+pub head_told : (names : List Name) (cells : List Cell) → HasNames names cells → AreBuilt cells → (at : ℕ) → at < length cells → HeadIs names cells (shows names cells at) (head_key names (slice_get cells at))
 head_told names cells h built at l =
     let c = cell_at cells at l in
-    subst (λ o. HeadIs names cells (shows names cells at) (head_key o)) (sym c.1)
-    (subst (λ t. HeadIs names cells t (head_key (Some c.0))) (sym (shows-cell names cells at c.0 c.1 (built at c.0 c.1))) (go c.0 (built at c.0 c.1) (AreNamed-cell (length names) cells at c.0 h.named c.1)))
+    subst (λ o. HeadIs names cells (shows names cells at) (head_key names o)) (sym c.1)
+    (subst (λ t. HeadIs names cells t (head_key names (Some c.0))) (sym (shows-cell names cells at c.0 c.1 (built at c.0 c.1))) (go c.0 (built at c.0 c.1) (AreNamed-cell (length names) cells at c.0 h.named c.1)))
   where
     count-args_at : (first n : ℕ) → count_of (args_at names cells first n) ≡ n
     count-args_at first zero = refl
     count-args_at first (suc n) = ap (λ m. 1 + m) (count-args_at (suc first) n) ∙ (let e : 1 + n ≡ suc n = omega arith in e)
 
-    chosen : AtomId → ℕ → Bool → Result Key Cause
-    chosen name n b = if b then Err cause.Builtin else Ok (record { name = name; arity = n })
+    whole : Name → Terms → ℕ → Option Term → Bool → Result Clause Cause
+    whole f ts vars d b = if b then Err cause.Builtin else Ok (record { name = f; args = ts; body = d; vars = vars })
 
-    whole : Name → Terms → Bool → ℕ → Option Term → Result Clause Cause
-    whole f ts b vars d = if b then Err cause.Builtin else Ok (record { name = f; args = ts; body = d; vars = vars })
+    lone : (name : AtomId) (b : Bool) → is_reserved (name_at names name.at) 0 ≡ b → HeadIs names cells (Atom (name_at names name.at)) (if b then Err cause.Builtin else Ok (record { name = name; arity = 0 }))
+    lone name true e = λ vars d. ap (whole (name_at names name.at) NoMore vars d) e
+    lone name false e = λ vars d. ap (whole (name_at names name.at) NoMore vars d) e
 
-    lone : (name : AtomId) (b : Bool) → is_reserved_atom name 0 ≡ b → name.at < length names → HeadIs names cells (Atom (name_at names name.at)) (if b then Err cause.Builtin else Ok (record { name = name; arity = 0 }))
-    lone name true e l = λ vars d. ap (λ c. let r : Result Clause Cause = (if c then Err cause.Builtin else Ok (record { name = name_at names name.at; args = NoMore; body = d; vars = vars })) in r) (reserved-named names h.table name 0 l ∙ e)
-    lone name false e l = λ vars d. ap (λ c. let r : Result Clause Cause = (if c then Err cause.Builtin else Ok (record { name = name_at names name.at; args = NoMore; body = d; vars = vars })) in r) (reserved-named names h.table name 0 l ∙ e)
+    many : (name : AtomId) (n : ℕ) (ts : Terms) (b : Bool) → is_reserved (name_at names name.at) n ≡ b → count_of ts ≡ n → HeadIs names cells (Comp (name_at names name.at) ts) (if b then Err cause.Builtin else Ok (record { name = name; arity = n }))
+    many name n ts true e k = λ vars d. ap (whole (name_at names name.at) ts vars d) (ap (is_reserved (name_at names name.at)) k ∙ e)
+    many name n ts false e k = λ vars d. ap (whole (name_at names name.at) ts vars d) (ap (is_reserved (name_at names name.at)) k ∙ e)
 
-    many : (name : AtomId) (n : ℕ) (ts : Terms) (b : Bool) → is_reserved_atom name n ≡ b → name.at < length names → count_of ts ≡ n → HeadIs names cells (Comp (name_at names name.at) ts) (if b then Err cause.Builtin else Ok (record { name = name; arity = n }))
-    many name n ts true e l k = λ vars d. ap (λ c. let r : Result Clause Cause = (if c then Err cause.Builtin else Ok (record { name = name_at names name.at; args = ts; body = d; vars = vars })) in r) (ap (is_reserved (name_at names name.at)) k ∙ reserved-named names h.table name n l ∙ e)
-    many name n ts false e l k = λ vars d. ap (λ c. let r : Result Clause Cause = (if c then Err cause.Builtin else Ok (record { name = name_at names name.at; args = ts; body = d; vars = vars })) in r) (ap (is_reserved (name_at names name.at)) k ∙ reserved-named names h.table name n l ∙ e)
-
-    go : (c : Cell) → StandsBefore at c → IsNamed (length names) c → HeadIs names cells (shown_from names cells c) (head_key (Some c))
+    go : (c : Cell) → StandsBefore at c → IsNamed (length names) c → HeadIs names cells (shown_from names cells c) (head_key names (Some c))
     go (cell.Var v) s n = λ vars b. refl
     go (cell.Int z) s n = λ vars b. refl
-    go (cell.Atom a) s n = lone a (is_reserved_atom a 0) refl n
-    go (cell.Comp name first count) s n = many name count (args_at names cells first.at count) (is_reserved_atom name count) refl n (count-args_at first.at count)
+    go (cell.Atom a) s n = lone a (is_reserved (name_at names a.at) 0) refl
+    go (cell.Comp name first count) s n = many name count (args_at names cells first.at count) (is_reserved (name_at names name.at) count) refl (count-args_at first.at count)
 
-pub head_named : (o : Option Cell) (key : Key) → head_key o ≡ Ok key → IsHead o
+pub head_named : (o : Option Cell) (key : Key) → key_of o ≡ Some key → IsHead o
 head_named None key e = absurd (cc)
 head_named (Some (cell.Var v)) key e = absurd (cc)
 head_named (Some (cell.Int z)) key e = absurd (cc)
@@ -213,82 +213,131 @@ head_named (Some (cell.Comp f first k)) key e = tt
 
 -- ---- clauses that are taken
 
--- a clause that was added is what the term gives
-pub clause_taken : (names : List Name) (old new : Parts) (cells : List Cell) (v : ClauseView) (r : Result Clause Cause) → AddsClause old new cells v → r ≡ Ok (clause_of names cells v) → AreNamed (length names) cells → AreNamed (length names) old.cells.items → Taken names old new (outcome (table_of old.ops) (OfClause r))
-clause_taken names old new cells v r a e n k = record {
-  more = clause_of names cells v ∷ [];
-  adds = ap (λ x. outcome (table_of old.ops) (OfClause x)) e ∙ ap (λ o. let q : Result (Table × Base) Cause = Ok (table_of o, clause_of names cells v ∷ []) in q) (sym a.ops);
-  clauses = a.clauses names;
+-- a clause that was added behind further cells is what the term gives
+pub clause_taken : (names : List Name) (old mid new : Parts) (more : List Cell) (v : ClauseView) (r : Result Clause Cause) → IsParts old → Longer old mid more → AddsClause mid new v → r ≡ Ok (clause_of names mid.store.cells v) → AreNamed (length names) mid.store.cells → Taken names old new (outcome (table_of old.ops) (OfClause r))
+clause_taken names old mid new more v r ok l a e n = record {
+  more = clause_of names mid.store.cells v ∷ [];
+  adds = ap (λ x. outcome (table_of old.ops) (OfClause x)) e ∙ ap (λ o. let q : Result (Table × Base) Cause = Ok (table_of o, clause_of names mid.store.cells v ∷ []) in q) (sym (a.ops ∙ l.ops));
+  clauses = a.clauses names ∙ ap (λ c. c ++ clause_of names mid.store.cells v ∷ []) (longer_base old mid more ok l names);
   parts = a.parts;
-  named = a.named (length names) k n;
+  named = subst (AreNamed (length names)) (sym a.cells) n;
+}
+
+-- cells behind others have their names
+pub named_behind : (n : ℕ) (old mid : Parts) (cells : List Cell) → Longer old mid (map (moved (length old.store.cells)) cells) → AreNamed n cells → AreNamed n old.store.cells → AreNamed n mid.store.cells
+named_behind n old mid cells l h k = subst (AreNamed n) (sym l.cells) (AreNamed-append n old.store.cells (map (moved (length old.store.cells)) cells) k (AreNamed-moved n (length old.store.cells) cells h))
+
+-- one more step of longer cells
+pub longer_both : (a b c : Parts) (xs ys : List Cell) → Longer a b xs → Longer b c ys → Longer a c (xs ++ ys)
+longer_both a b c xs ys l m = record {
+  parts = m.parts;
+  cells = m.cells ∙ ap (λ cs. cs ++ ys) l.cells ∙ append_assoc a.store.cells xs ys;
+  clauses = m.clauses ∙ l.clauses;
+  ops = m.ops ∙ l.ops;
 }
 
 -- a head alone
-pub fact_fits : (cells : List Cell) (head : Ref) (vars : ℕ) (key : Key) → head.at < length cells → AreBelow cells vars head → head_key (slice_get cells head.at) ≡ Ok key → ViewFits cells (record { head = head; body = None; vars = vars })
-fact_fits cells head vars key l below e = record { head = l; named = head_named (slice_get cells head.at) key e; below = below; body = tt }
+module _ (old mid : Parts) (cells : List Cell) (head : Ref) (vars : ℕ) (key : Key) (l : Longer old mid (map (moved (length old.store.cells)) cells)) where
+  abbrev fact_view : ClauseView
+  fact_view = record { head = head; body = None; vars = vars }
 
-pub fact_told : (names : List Name) (cells : List Cell) (head : Ref) (vars : ℕ) (key : Key) → HasNames names cells → AreBuilt cells → head.at < length cells → head_key (slice_get cells head.at) ≡ Ok key → with_head (shows names cells head.at) vars None ≡ Ok (clause_of names cells (record { head = head; body = None; vars = vars }))
-fact_told names cells head vars key h built l e = subst (HeadIs names cells (shows names cells head.at)) e (head_told names cells h built head.at l) vars None
+  pub fact_fits : head.at < length cells → AreBelow cells vars head → key_of (slice_get cells head.at) ≡ Some key → ViewFits mid.store.cells (moved_view (length old.store.cells) fact_view)
+  fact_fits within below e = subst (λ (cs : List Cell). ViewFits cs (moved_view (length old.store.cells) fact_view)) (sym l.cells)
+      (fits_moved old.store.cells cells fact_view (record { head = within; named = head_named (slice_get cells head.at) key e; below = below; body = tt }))
 
-pub head_refused : (names : List Name) (cells : List Cell) (head : Ref) (c : Cause) → HasNames names cells → AreBuilt cells → head.at < length cells → head_key (slice_get cells head.at) ≡ Err c → (vars : ℕ) (b : Option Term) → with_head (shows names cells head.at) vars b ≡ Err c
+  pub moved_key : key_of (slice_get cells head.at) ≡ Some key → key_of (slice_get mid.store.cells (head.at + length old.store.cells)) ≡ Some key
+  moved_key e = ap (λ cs. key_of (slice_get cs (head.at + length old.store.cells))) l.cells ∙ key_behind old.store.cells cells head.at ∙ e
+
+  pub fact_told : (names : List Name) → HasNames names cells → AreBuilt cells → head.at < length cells → head_key names (slice_get cells head.at) ≡ Ok key → with_head (shows names cells head.at) vars None ≡ Ok (clause_of names mid.store.cells (moved_view (length old.store.cells) fact_view))
+  fact_told names h built within e =
+      subst (HeadIs names cells (shows names cells head.at)) e (head_told names cells h built head.at within) vars None
+      ∙ ap Ok (sym (ap (λ cs. clause_of names cs (moved_view (length old.store.cells) fact_view)) l.cells ∙ clause_moved names old.store.cells cells fact_view))
+
+pub head_refused : (names : List Name) (cells : List Cell) (head : Ref) (c : Cause) → HasNames names cells → AreBuilt cells → head.at < length cells → head_key names (slice_get cells head.at) ≡ Err c → (vars : ℕ) (b : Option Term) → with_head (shows names cells head.at) vars b ≡ Err c
 head_refused names cells head c h built l e = subst (HeadIs names cells (shows names cells head.at)) e (head_told names cells h built head.at l)
 
 pub refused_rule : (head : Term) (t : Term) (vars : ℕ) (c : Cause) → with_head head vars (body t) ≡ Err c → rule head t vars ≡ Err c
 refused_rule head t vars c e = ap (with_body (body t)) e
 
--- a head and a body, whose cells may stand behind the others
-module _ (old new : List Cell) (head term : Ref) (vars : ℕ) (key : Key) (built : AreBuilt old) (lh : head.at < length old) (lt : term.at < length old) (is : head_key (slice_get old head.at) ≡ Ok key) where
-  abbrev view : Ref → ClauseView
-  view place = record { head = head; body = Some place; vars = vars }
+-- a head and a body, whose cells stand behind the others, and those of the body's conversion behind them
+module _ (old mid new : Parts) (cells : List Cell) (head term : Ref) (vars : ℕ) (key : Key) (l : Longer old mid (map (moved (length old.store.cells)) cells)) (built : AreBuilt cells) (lh : head.at < length cells) (lt : term.at < length cells)
+    (is : key_of (slice_get cells head.at) ≡ Some key) (free : (names : List Name) → HasNames names cells → head_key names (slice_get cells head.at) ≡ Ok key) where
+  abbrev by : ℕ
+  by = length old.store.cells
 
-  head_kept : (found : Option Ref) → TellsBody old new term found → slice_get new head.at ≡ slice_get old head.at
-  head_kept found t = ap (λ l. slice_get l head.at) (t.adds).added ∙ slice_get-append old (t.adds).more head.at lh
+  abbrev pub rule_view : Ref → ClauseView
+  rule_view place = record { head = record { at = head.at + by }; body = Some place; vars = vars }
 
-  shown_kept : (names : List Name) (found : Option Ref) → TellsBody old new term found → shows names new head.at ≡ shows names old head.at
-  shown_kept names found t = ap (λ l. shows names l head.at) (t.adds).added ∙ shows-append names old (t.adds).more head.at lh
+  longer_mid : length mid.store.cells ≡ by + length cells
+  longer_mid = ap length l.cells ∙ length-append old.store.cells (map (moved by) cells) ∙ ap (λ n. by + n) (length-map cells (moved by))
 
-  pub rule_key : (found : Option Ref) → TellsBody old new term found → head_key (slice_get new head.at) ≡ Ok key
-  rule_key found t = ap head_key (head_kept found t) ∙ is
+  pub term_within : term.at + by < length mid.store.cells
+  term_within = omega (arith, longer_mid, lt)
 
-  pub rule_fits : (names : List Name) → HasNames names old → AreBelow old vars head → AreBelow old vars term → (place : Ref) → TellsBody old new term (Some place) → ViewFits new (record { head = head; body = Some place; vars = vars })
-  rule_fits names h bh bt place t = record {
-    head = omega (arith, lh, ap length (t.adds).added, length-append old (t.adds).more);
-    named = subst (λ o. IsHead o) (sym (head_kept (Some place) t)) (head_named (slice_get old head.at) key is);
-    below = λ v o. bh v (ap (occurs v) (sym (shown_kept [] (Some place) t)) ∙ o);
-    body = (
-      t.within,
-      λ v o.
-          bt v (occurs-names v [] names old term.at
-          ∙ occurs-body v (shows names old term.at) (shows names new place.at) (t.shown names h).same (occurs-names v names [] new place.at ∙ o)),
-    );
-  }
+  head_within : head.at + by < length mid.store.cells
+  head_within = omega (arith, longer_mid, lh)
 
-  pub rule_told : (names : List Name) → HasNames names old → (place : Ref) → TellsBody old new term (Some place) → rule (shows names old head.at) (shows names old term.at) vars ≡ Ok (clause_of names new (record { head = head; body = Some place; vars = vars }))
-  rule_told names h place t =
-      let b = (t.shown names h).same in
-      ap (with_body (body (shows names old term.at))) (subst (HeadIs names old (shows names old head.at)) is (head_told names old h built head.at lh) vars (body (shows names old term.at)))
-      ∙ ap (λ o. with_body o (Ok (clause_by (shows names old head.at) o vars))) b
-      ∙ ap (λ x. let r : Result Clause Cause = Ok (clause_by x (Some (shows names new place.at)) vars) in r) (sym (shown_kept names (Some place) t))
+  shown_mid : (names : List Name) (at : ℕ) → shows names mid.store.cells (at + by) ≡ shows names cells at
+  shown_mid names at = ap (λ cs. shows names cs (at + by)) l.cells ∙ shows-moved names old.store.cells cells at
 
-  pub rule_bodiless : (names : List Name) → HasNames names old → TellsBody old new term None → rule (shows names old head.at) (shows names old term.at) vars ≡ Err cause.Body
-  rule_bodiless names h t =
-      let b = (t.shown names h).same in
-      ap (with_body (body (shows names old term.at))) (subst (HeadIs names old (shows names old head.at)) is (head_told names old h built head.at lh) vars (body (shows names old term.at)))
-      ∙ ap (λ o. with_body o (Ok (clause_by (shows names old head.at) o vars))) b
+  module _ (found : Option Ref) (t : TellsBody mid new (record { at = term.at + by }) found) where
+    head_kept : slice_get new.store.cells (head.at + by) ≡ slice_get mid.store.cells (head.at + by)
+    head_kept = ap (λ cs. slice_get cs (head.at + by)) (t.longer).cells ∙ slice_get-append mid.store.cells t.more (head.at + by) head_within
+
+    shown_new : (names : List Name) → shows names new.store.cells (head.at + by) ≡ shows names cells head.at
+    shown_new names = ap (λ cs. shows names cs (head.at + by)) (t.longer).cells ∙ shows-append names mid.store.cells t.more (head.at + by) head_within ∙ shown_mid names head.at
+
+    pub rule_key : key_of (slice_get new.store.cells (head.at + by)) ≡ Some key
+    rule_key = ap key_of head_kept ∙ ap (λ cs. key_of (slice_get cs (head.at + by))) l.cells ∙ key_behind old.store.cells cells head.at ∙ is
+
+    body_is : (names : List Name) → HasNames names cells → AreNamed (length names) old.store.cells → body (shows names cells term.at) ≡ option_map (λ (p : Ref). shows names new.store.cells p.at) found
+    body_is names h k = ap body (sym (shown_mid names term.at)) ∙ (t.shown names h.table (named_behind (length names) old mid cells l h.named k)).same
+
+    pub rule_named : (names : List Name) → HasNames names cells → AreNamed (length names) old.store.cells → AreNamed (length names) new.store.cells
+    rule_named names h k = (t.shown names h.table (named_behind (length names) old mid cells l h.named k)).named
+
+    pub rule_fits : AreNameable old.store.cells cells → AreBelow cells vars head → AreBelow cells vars term → (place : Ref) → found ≡ Some place → ViewFits new.store.cells (rule_view place)
+    rule_fits n bh bt place e = record {
+      head = omega (arith, head_within, ap length (t.longer).cells, length-append mid.store.cells t.more);
+      named = head_named (slice_get new.store.cells (head.at + by)) key rule_key;
+      below = λ v o. bh v (ap (occurs v) (sym (shown_new [])) ∙ o);
+      body = (
+        subst (λ o. IfSome o (λ (p : Ref). p.at < length new.store.cells)) e t.within,
+        λ v o.
+            bt v (occurs-names v [] n.names cells term.at
+            ∙ occurs-body v (shows n.names cells term.at) (shows n.names new.store.cells place.at)
+            (body_is n.names n.has n.known ∙ ap (option_map (λ (p : Ref). shows n.names new.store.cells p.at)) e)
+            (occurs-names v n.names [] new.store.cells place.at ∙ o)),
+      );
+    }
+
+    pub rule_told : (names : List Name) → HasNames names cells → AreNamed (length names) old.store.cells → (place : Ref) → found ≡ Some place → rule (shows names cells head.at) (shows names cells term.at) vars ≡ Ok (clause_of names new.store.cells (rule_view place))
+    rule_told names h k place e =
+        ap (with_body (body (shows names cells term.at))) (subst (HeadIs names cells (shows names cells head.at)) (free names h) (head_told names cells h built head.at lh) vars (body (shows names cells term.at)))
+        ∙ ap (λ o. with_body o (Ok (clause_by (shows names cells head.at) o vars))) (body_is names h k ∙ ap (option_map (λ (p : Ref). shows names new.store.cells p.at)) e)
+        ∙ ap (λ x. let r : Result Clause Cause = Ok (clause_by x (Some (shows names new.store.cells place.at)) vars) in r) (sym (shown_new names))
+
+    pub rule_bodiless : (names : List Name) → HasNames names cells → AreNamed (length names) old.store.cells → found ≡ None → rule (shows names cells head.at) (shows names cells term.at) vars ≡ Err cause.Body
+    rule_bodiless names h k e =
+        ap (with_body (body (shows names cells term.at))) (subst (HeadIs names cells (shows names cells head.at)) (free names h) (head_told names cells h built head.at lh) vars (body (shows names cells term.at)))
+        ∙ ap (λ o. with_body o (Ok (clause_by (shows names cells head.at) o vars))) (body_is names h k ∙ ap (option_map (λ (p : Ref). shows names new.store.cells p.at)) e)
+
+-- an integer is no body
+pub rule_integer : (names : List Name) (cells : List Cell) (head term : Ref) (vars : ℕ) (key : Key) → HasNames names cells → AreBuilt cells → head.at < length cells → head_key names (slice_get cells head.at) ≡ Ok key → (n : ℤ) → slice_get cells term.at ≡ Some (cell.Int n) → rule (shows names cells head.at) (shows names cells term.at) vars ≡ Err cause.Body
+rule_integer names cells head term vars key h built lh free n e =
+    ap (λ t. rule (shows names cells head.at) t vars) (shows-cell names cells term.at (cell.Int n) e tt)
+    ∙ ap (with_body None) (subst (HeadIs names cells (shows names cells head.at)) free (head_told names cells h built head.at lh) vars None)
 
 -- ---- directives that are taken
 
-abbrev pub with_ops : Parts → Parts → Type 0
-with_ops old new = (new.cells ≡ old.cells) × (new.clauses ≡ old.clauses) × (new.index ≡ old.index)
-
 -- the table alone was changed
-pub directive_taken : {A : Type 0} (names : List Name) (old : Parts) (ops : Ops) (result : Result A TermFault) (r : Option Table) (k : Kind) → IsParts old → AreNamed (length names) old.cells.items → k ≡ Directive r → TellsDirective (table_of ops) result r
-    → TellsTerm names old (record { cells = old.cells; clauses = old.clauses; index = old.index; ops = ops }) result (outcome (table_of old.ops) k)
+pub directive_taken : {A : Type 0} (names : List Name) (old : Parts) (ops : Ops) (result : Result A TermFault) (r : Option Table) (k : Kind) → IsParts old → AreNamed (length names) old.store.cells → k ≡ Directive r → TellsDirective (table_of ops) result r
+    → TellsTerm names old (record { store = old.store; clauses = old.clauses; index = old.index; ops = ops }) result (outcome (table_of old.ops) k)
 directive_taken names old ops (Ok done) r k ok n e t = record {
   more = [];
   adds = ap (outcome (table_of old.ops)) (e ∙ ap Directive t);
   clauses = sym (append-nil (base_of names (contents_of old)));
-  parts = record { base = record { built = (ok.base).built; clauses = (ok.base).clauses }; index = ok.index };
+  parts = record { base = record { built = (ok.base).built; clauses = (ok.base).clauses }; index = ok.index; unbound = ok.unbound };
   named = n;
 }
 directive_taken names old ops (Err (Refused cause.Directive)) r k ok n e t = ap (outcome (table_of old.ops)) (e ∙ ap Directive t)

@@ -1,11 +1,12 @@
 -- What a base keeps, and the clauses that it stands for.
-use Rattle.std.specs.Prelude.{◌≡◌, ℕ, zero, suc, Bool, false, nat_eq, ◌&&◌, List, [], ◌∷◌, map, length, Option, Some, None, option_map, slice_get, if◌then◌else◌, ◌<◌, ◌≤◌, All, IfSome, true}
+use Rattle.std.specs.Prelude.{◌≡◌, ℕ, suc, Bool, false, nat_eq, ◌&&◌, List, [], ◌∷◌, map, length, Option, Some, option_map, slice_get, if◌then◌else◌, ◌<◌, All, IfSome, true}
 use Rattle.tp_terms.specs.declared.cells.Cell.{Cell}
 use Rattle.tp_terms.specs.declared.cells.Cell.TheVariants as cell
 use Rattle.tp_terms.specs.declared.cells.Ref.{Ref}
 use Rattle.tp_terms.specs.declared.cells.AtomId.{AtomId}
-use Rattle.tp_terms.specs.Term.{Name, Term, Terms, Var, Int, Atom, Comp, NoMore, occurs}
-use Rattle.tp_terms.specs.Shown.{shows, AreBuilt}
+use Rattle.tp_terms.specs.Term.{Name, Term, Terms, Atom, Comp, NoMore, occurs}
+use Rattle.tp_terms.specs.Names.{IsTable}
+use Rattle.tp_terms.specs.Shown.{shows, AreBuilt, AreNamed}
 use Rattle.tp_parse.specs.Ops.{Entries}
 use Rattle.tp_meaning.specs.Clauses.{Clause, Base}
 use Rattle.tp_clauses.specs.declared.base.ClauseView.{ClauseView}
@@ -82,3 +83,14 @@ pub record IsBase (c : Contents) : Type 0 where
 -- the clauses at some places, none where no clause is there
 abbrev pub clauses_at : List Name → Contents → List ClauseId → List (Option Clause)
 clauses_at names c = map (λ id. option_map (clause_of names c.cells) (slice_get c.clauses id.at))
+
+-- a table of names that has every atom of the cells
+pub record HasNames (names : List Name) (cells : List Cell) : Type 0 where
+  pub table : IsTable names
+  pub named : AreNamed (length names) cells
+
+-- there is one that has the atoms of these and of further cells
+pub record AreNameable (first cells : List Cell) : Type 0 where
+  pub names : List Name
+  pub has : HasNames names cells
+  pub known : AreNamed (length names) first

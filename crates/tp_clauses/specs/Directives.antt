@@ -1,8 +1,7 @@
 -- Directives: `:- op(Priority, Type, Name)`, and no other.
-use Rattle.std.specs.Prelude.{ℕ, Bool, true, false, nat_le, ◌&&◌, List, [], ◌∷◌, Option, Some, None, Result, Ok, Err, ℤ, pos, negsuc, codes, is_some, if◌then◌else◌}
-use Rattle.tp_terms.specs.Term.{Name, Term, Terms, Var, Int, Atom, Comp, NoMore, More, names_eq}
+use Rattle.std.specs.Prelude.{Bool, false, nat_le, ◌&&◌, List, [], ◌∷◌, Option, Some, None, Ok, Err, ℤ, pos, negsuc, codes, is_some, if◌then◌else◌}
+use Rattle.tp_terms.specs.Term.{Name, Term, Int, Atom, Comp, NoMore, More, names_eq}
 use Rattle.tp_parse.specs.Table.{Table, type_of, add_op}
-use Rattle.tp_parse.specs.declared.table.OpFault.{OpFault}
 
 abbrev pub with_first : Name → Option (List Name) → Option (List Name)
 with_first name None = None

@@ -1,5 +1,5 @@
 -- What an index of clauses has for a name and a number of arguments.
-use Rattle.std.specs.Prelude.{◌≡◌, ℕ, Bool, nat_eq, ◌&&◌, List, []}
+use Rattle.std.specs.Prelude.{Bool, nat_eq, ◌&&◌, List, []}
 use Rattle.std.specs.Option.{option_map_or}
 use Rattle.std.specs.Map.{lookup}
 use Rattle.tp_clauses.specs.declared.base.ClauseId.{ClauseId}

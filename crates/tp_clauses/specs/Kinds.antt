@@ -1,14 +1,15 @@
--- What the cell of a place tells: what a read term is, the heads that clauses may have, and the names that join goals.
-use Rattle.std.specs.Prelude.{ℕ, ◌+◌, Bool, nat_eq, ◌&&◌, ◌||◌, List, Option, Some, None, Result, Ok, Err, if◌then◌else◌}
-use Rattle.std.specs.List.{list_any}
+-- What the cell of a place tells: what a read term is, and the heads that clauses may have.
+use Rattle.std.specs.Prelude.{ℕ, ◌+◌, Bool, nat_eq, List, Option, Some, None, Result, Ok, Err, if◌then◌else◌}
 use Rattle.tp_terms.specs.declared.cells.Cell.{Cell}
 use Rattle.tp_terms.specs.declared.cells.Cell.TheVariants as cell
 use Rattle.tp_terms.specs.declared.cells.Ref.{Ref}
 use Rattle.tp_terms.specs.declared.cells.AtomId.{AtomId}
-use Rattle.tp_terms.specs.declared.symbols.TheConstants.{NECK, QUERY, GRAMMAR, CONJUNCTION, DISJUNCTION, IF_THEN}
+use Rattle.tp_terms.specs.declared.symbols.TheConstants.{NECK, QUERY, GRAMMAR}
+use Rattle.tp_terms.specs.Term.{Name}
+use Rattle.tp_terms.specs.Shown.{name_at}
+use Rattle.tp_meaning.specs.Goals.{is_reserved}
 use Rattle.tp_clauses.specs.declared.fault.Cause.{Cause}
 use Rattle.tp_clauses.specs.declared.fault.Cause.TheVariants as cause
-use Rattle.tp_clauses.specs.declared.reserved.TheConstants.{RESERVED}
 use Rattle.tp_clauses.specs.declared.kind.Key.{Key}
 use Rattle.tp_clauses.specs.declared.kind.ReadKind.{ReadKind}
 use Rattle.tp_clauses.specs.declared.kind.ReadKind.TheVariants as kind
@@ -32,23 +33,20 @@ read_as (Some (cell.Comp name first count)) =
     if nat_eq count 1 then unary_read name first else if nat_eq count 2 then binary_read name first (behind first 1) else kind.Fact
 read_as c = kind.Fact
 
--- a name and a number of arguments are among these
-abbrev pub has_key : List (AtomId × ℕ) → AtomId → ℕ → Bool
-has_key keys name count = list_any (λ key. is_atom name key.0 && nat_eq count key.1) keys
+-- the name and the number of arguments of a head, where the cell is one
+abbrev pub key_of : Option Cell → Option Key
+key_of (Some (cell.Atom name)) = Some (record { name = name; arity = 0 })
+key_of (Some (cell.Comp name first count)) = Some (record { name = name; arity = count })
+key_of c = None
 
--- no clause may define the goals of a name and a number of arguments
-unfoldable pub is_reserved_atom : AtomId → ℕ → Bool
-is_reserved_atom name count = has_key RESERVED name count
-
-abbrev pub free_key : AtomId → ℕ → Result Key Cause
-free_key name arity = if is_reserved_atom name arity then Err cause.Builtin else Ok (record { name = name; arity = arity })
+-- a name and a number of arguments, where a clause may define them
+abbrev pub free_key : List Name → AtomId → ℕ → Result Key Cause
+free_key names name arity =
+    if is_reserved (name_at names name.at) arity then Err cause.Builtin
+    else Ok (record { name = name; arity = arity })
 
 -- the name and the number of arguments that a head defines, or why it can't stand there
-abbrev pub head_key : Option Cell → Result Key Cause
-head_key (Some (cell.Atom name)) = free_key name 0
-head_key (Some (cell.Comp name first count)) = free_key name count
-head_key c = Err cause.Head
-
--- a control goal of this name is made of two goals
-abbrev pub joins : AtomId → Bool
-joins name = (is_atom name CONJUNCTION || is_atom name DISJUNCTION) || is_atom name IF_THEN
+abbrev pub head_key : List Name → Option Cell → Result Key Cause
+head_key names (Some (cell.Atom name)) = free_key names name 0
+head_key names (Some (cell.Comp name first count)) = free_key names name count
+head_key names c = Err cause.Head

@@ -1,4 +1,3 @@
-pub mod Reserved
 pub mod Directives
 pub mod Model
 pub mod Contents
@@ -6,7 +5,6 @@ pub mod Loaded
 pub mod Kinds
 pub mod Moved
 pub mod Indexed
-pub mod Standing
 pub mod Bodies
 pub mod Told
 pub mod Parts

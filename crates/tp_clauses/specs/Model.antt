@@ -1,5 +1,5 @@
 -- The model of a text: its clauses in order and the last table of operators, or the one refusal.
-use Rattle.std.specs.Prelude.{ℕ, zero, suc, ◌+◌, Bool, true, false, List, [], ◌∷◌, length, Option, Some, None, Result, Ok, Err, codes, if◌then◌else◌}
+use Rattle.std.specs.Prelude.{ℕ, zero, suc, ◌+◌, List, [], ◌∷◌, Option, Some, None, Result, Ok, Err, codes, if◌then◌else◌}
 use Rattle.std.specs.Str.{is_utf8}
 use Rattle.std.specs.Str.Lossy.{utf8_valid_len}
 use Rattle.tp_terms.specs.Term.{Name, Term, Terms, Var, Int, Atom, Comp, NoMore, More, names_eq, count_of}
@@ -13,7 +13,7 @@ use Rattle.tp_parse.specs.declared.fault.ReadCause.{ReadCause}
 use Rattle.tp_parse.specs.declared.fault.ReadCause.TheVariants as reading
 use Rattle.tp_meaning.specs.Body.{body}
 use Rattle.tp_meaning.specs.Clauses.{Clause, Base}
-use Rattle.tp_clauses.specs.Reserved.{is_reserved}
+use Rattle.tp_meaning.specs.Goals.{is_reserved}
 use Rattle.tp_clauses.specs.Directives.{directive}
 use Rattle.tp_clauses.specs.declared.fault.Cause.{Cause}
 use Rattle.tp_clauses.specs.declared.fault.Cause.TheVariants as cause

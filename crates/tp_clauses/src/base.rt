@@ -1,12 +1,13 @@
 //! The base of clauses.
 
-ghost use Rattle.std.specs.Prelude.{◌≡◌, ◌<◌, List, [], length, map, slice_get, Some, IfOk, IfSome, MatchOption};
+ghost use Rattle.std.specs.Prelude.{◌≡◌, ◌<◌, List, [], length, map, slice_get, true, Some, Err, IfOk, IfSome, MatchOption};
+ghost use Rattle.std.specs.Str.{is_utf8};
 ghost use Rattle.tp_terms.specs.Term.{Name};
 ghost use Rattle.tp_terms.specs.Names.{AreDistinct, Grows};
 ghost use Rattle.tp_terms.specs.Shown.{AreNamed, name_at};
 ghost use Rattle.tp_meaning.specs.Clauses.{predicate};
 ghost use Rattle.tp_clauses.specs.Contents.{IsBase, ViewFits, base_of, clauses_at, places_of};
-ghost use Rattle.tp_clauses.specs.Loaded.{Tells};
+ghost use Rattle.tp_clauses.specs.Loaded.{AsksMemory, Tells};
 ghost use Rattle.tp_clauses.specs.Model.{model};
 
 use crate::fault::{Cause, LoadFault};
@@ -59,11 +60,14 @@ impl Base {
     ///
     /// # Errors
     /// `Refused` with the clause's number, the byte and the cause where the text has no model, and `NoMemory` where
-    /// memory was refused. Both may leave new names in `atoms`; no name changes its place.
+    /// memory was refused. Both may leave new names in `atoms`; no name changes its place. `NoMemory` never stands for a
+    /// text that isn't UTF-8, nor for a read term that is refused at its first token.
     pub fn load(alloc: Global, text: &[u8], atoms: &mut Atoms) -> Result<Base, LoadFault>
         ensures model { Tells atoms.new result (model text.now) }
         ensures base { IfOk result IsBase }
         ensures grows { Grows atoms.old atoms.new }
+        ensures memory { result ≡ Err LoadFault.NoMemory →
+            (is_utf8 text.now ≡ true) × AsksMemory text.now }
     {
         match str::from_utf8(text) {
             Ok(text) => match load_text(alloc, text, atoms) {
@@ -105,7 +109,7 @@ impl Base {
         ensures cells { result.now.items ≡ self.now.cells }
         ensures base { IsBase self.now }
     {
-        &self.parts.cells
+        self.parts.store.cells()
     }
 
     /// The last table of operators. Takes no memory.

@@ -1,12 +1,12 @@
 //! Directives, which change the table of operators.
 
-ghost use Rattle.std.specs.Prelude.{◌≡◌, ◌<◌, length, slice_get, Some};
+ghost use Rattle.std.specs.Prelude.{◌≡◌, ◌<◌, length, slice_get, true, Some, Ok, Err};
 ghost use Rattle.tp_terms.specs.Shown.{AreBuilt, name_at, shows};
 ghost use Rattle.tp_parse.specs.Ops.{table_of};
-ghost use Rattle.tp_parse.specs.Table.{add_op};
+ghost use Rattle.tp_parse.specs.Table.{Table, add_op};
 ghost use Rattle.tp_clauses.specs.Directives.{add_names, directive, listed_names, op_names};
-ghost use Rattle.tp_clauses.specs.Standing.{HasNames};
-ghost use Rattle.tp_clauses.specs.Told.{TellsDirective, added_or_none, allows_atom, each_added, element_part, is_type_atom, list_part, lone_name, operators_at, typed};
+ghost use Rattle.tp_clauses.specs.Contents.{HasNames};
+ghost use Rattle.tp_clauses.specs.Told.{MayAdd, TellsDirective, added_or_none, allows_atom, each_added, element_part, is_type_atom, list_part, lone_name, operators_at, typed};
 
 use crate::fault::Cause;
 use tp_parse::{OpFault, Ops};
@@ -54,7 +54,9 @@ pub fn run(cells: &Cells, goal: Ref, atoms: &Atoms, ops: &mut Ops) -> Result<(),
     requires within { goal.at < length cells.now.items }
     requires names { HasNames atoms.now cells.now.items }
     requires built { AreBuilt cells.now.items }
-    ensures { TellsDirective (table_of ops.new) result (directive (shows atoms.now cells.now.items goal.at) (table_of ops.old)) }
+    ensures told { TellsDirective (table_of ops.new) result (directive (shows atoms.now cells.now.items goal.at) (table_of ops.old)) }
+    ensures memory { result ≡ Err TermFault.NoMemory →
+        MayAdd (operators_at (slice_get cells.now.items) (slice_get cells.now.items goal.at)) }
 {
     match operators_of(cells, goal) {
         Some(operators) => add_names(cells, operators, atoms, ops),
@@ -108,7 +110,9 @@ fn add_names(
     requires kind { operators.kind.at < length atoms.now }
     requires names { HasNames atoms.now cells.now.items }
     requires built { AreBuilt cells.now.items }
-    ensures { TellsDirective (table_of ops.new) result (add_names operators.priority (name_at atoms.now operators.kind.at) (op_names (shows atoms.now cells.now.items operators.names.at)) (table_of ops.old)) }
+    ensures told { TellsDirective (table_of ops.new) result (add_names operators.priority (name_at atoms.now operators.kind.at) (op_names (shows atoms.now cells.now.items operators.names.at)) (table_of ops.old)) }
+    ensures memory { result ≡ Err TermFault.NoMemory →
+        allows_atom operators.priority operators.kind ≡ true }
 {
     if !allows(operators.priority, operators.kind) {
         return Err(TermFault::Refused(Cause::Directive));
@@ -153,7 +157,9 @@ fn add_name(
 ) -> Result<(), TermFault>
     requires kind { kind.at < length atoms.now }
     requires name { name.at < length atoms.now }
-    ensures { TellsDirective (table_of ops.new) result (added_or_none (add_op priority (name_at atoms.now kind.at) (name_at atoms.now name.at) (table_of ops.old))) }
+    ensures told { TellsDirective (table_of ops.new) result (added_or_none (add_op priority (name_at atoms.now kind.at) (name_at atoms.now name.at) (table_of ops.old))) }
+    ensures memory { result ≡ Err TermFault.NoMemory → (t : Table) ×
+        (add_op priority (name_at atoms.now kind.at) (name_at atoms.now name.at) (table_of ops.old) ≡ Ok t) }
 {
     match ops.add(priority, atoms.name(kind), atoms.name(name)) {
         Ok(()) => Ok(()),

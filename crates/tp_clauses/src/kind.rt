@@ -1,11 +1,14 @@
 //! What a read term is, and the heads that clauses may have.
 
-ghost use Rattle.std.specs.Prelude.{◌≡◌, ◌<◌, length, slice_get};
-ghost use Rattle.tp_clauses.specs.Kinds.{binary_read, free_key, head_key, joins, read_as, unary_read};
+ghost use Rattle.std.specs.Prelude.{◌≡◌, ◌<◌, List, length, slice_get, Some, IfOk};
+ghost use Rattle.tp_terms.specs.Term.{Name};
+ghost use Rattle.tp_terms.specs.Names.{IsTable};
+ghost use Rattle.tp_clauses.specs.Kinds.{binary_read, free_key, head_key, key_of, read_as, unary_read};
+ghost use Rattle.tp_clauses.specs.Contents.{HasNames};
 
 use crate::fault::Cause;
-use crate::reserved::is_reserved;
-use tp_terms::symbols::{CONJUNCTION, DISJUNCTION, GRAMMAR, IF_THEN, NECK, QUERY};
+use tp_meaning::goal_kind;
+use tp_terms::symbols::{GRAMMAR, NECK, QUERY};
 use tp_terms::{AtomId, Cell, Cells, Ref};
 
 /// What a read term is, by its principal functor.
@@ -91,7 +94,9 @@ fn binary_kind(name: AtomId, left: Ref, right: Ref) -> ReadKind
 /// The name and the number of arguments that a head defines, or why it can't stand there.
 pub fn head_key(cells: &Cells, head: Ref) -> Result<Key, Cause>
     requires { head.at < length cells.now.items }
-    ensures { result ≡ head_key (slice_get cells.now.items head.at) }
+    ensures head { (names : List Name) → HasNames names cells.now.items →
+        result ≡ head_key names (slice_get cells.now.items head.at) }
+    ensures key { IfOk result (λ key. key_of (slice_get cells.now.items head.at) ≡ Some key) }
 {
     match cells.get(head) {
         Cell::Var(_) => Err(Cause::Head),
@@ -101,20 +106,14 @@ pub fn head_key(cells: &Cells, head: Ref) -> Result<Key, Cause>
     }
 }
 
-/// A name and a number of arguments that a clause may define.
+/// A name and a number of arguments, where a clause may define them.
 fn free_key(name: AtomId, arity: u8) -> Result<Key, Cause>
-    ensures { result ≡ free_key name arity }
+    ensures free { (names : List Name) → IsTable names → name.at < length names →
+        result ≡ free_key names name arity }
+    ensures key { IfOk result (λ key. key ≡ record { name = name; arity = arity }) }
 {
-    if is_reserved(name, arity) {
-        Err(Cause::Builtin)
-    } else {
-        Ok(Key { name, arity })
+    match goal_kind(name, arity) {
+        Some(_) => Err(Cause::Builtin),
+        None => Ok(Key { name, arity }),
     }
-}
-
-/// Whether a control goal of the name is made of two goals.
-pub fn joins(name: AtomId) -> bool
-    ensures { result ≡ joins name }
-{
-    name == CONJUNCTION || name == DISJUNCTION || name == IF_THEN
 }

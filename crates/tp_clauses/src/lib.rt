@@ -3,14 +3,12 @@
 
 mod append;
 mod base;
-mod body;
 mod directive;
 mod fault;
 mod index;
 mod kind;
 mod load;
 mod parts;
-mod reserved;
 #[cfg(test)]
 mod tests;
 

@@ -1,6 +1,7 @@
 //! The clauses of a text, one read term after another.
 
-ghost use Rattle.std.specs.Prelude.{◌≡◌, ◌<◌, ◌≤◌, ◌+◌, List, length, slice_get, Ok, IfOk};
+ghost use Rattle.std.specs.Prelude.{◌≡◌, ◌<◌, ◌≤◌, ◌+◌, List, length, slice_get, true, Ok, Err, Some, IfOk};
+ghost use Rattle.std.specs.Result.{is_ok};
 ghost use Rattle.std.specs.Str.{IsCharBoundary};
 ghost use Rattle.tp_terms.specs.Term.{Name};
 ghost use Rattle.tp_terms.specs.Names.{Grows, IsTable};
@@ -10,24 +11,24 @@ ghost use Rattle.tp_parse.specs.Ops.{table_of};
 ghost use Rattle.tp_parse.specs.Table.{start_table};
 ghost use Rattle.tp_parse.specs.Tells.{Tells};
 ghost use Rattle.tp_parse.specs.Texts.{Found};
-ghost use Rattle.tp_clauses.specs.Contents.{AreBelow};
-ghost use Rattle.tp_clauses.specs.Kinds.{head_key};
+ghost use Rattle.tp_clauses.specs.Contents.{AreBelow, AreNameable, HasNames};
+ghost use Rattle.tp_clauses.specs.Kinds.{head_key, key_of, read_as};
+ghost use Rattle.tp_clauses.specs.Loaded.{AsksMemory};
 ghost use Rattle.tp_clauses.specs.Model.{OfClause, by_token, cause_of, kind_of, model_from, most_terms, rule, with_head};
 ghost use Rattle.tp_clauses.specs.Parts.{IsParts};
-ghost use Rattle.tp_clauses.specs.Standing.{HasNames, IsNameable};
-ghost use Rattle.tp_clauses.specs.Told.{TellsEnd, TellsParts, TellsRead, TellsStep, TellsTerm, outcome};
+ghost use Rattle.tp_clauses.specs.Told.{IsNoInteger, MayDefine, MayTake, TellsBegin, TellsEnd, TellsToken, TellsParts, TellsRead, TellsStep, TellsTerm, outcome};
 
+use crate::append::place_on;
 use crate::base::ClauseView;
-use crate::body::body_of;
 use crate::directive::{TermFault, run};
 use crate::fault::{Cause, LoadFault};
 use crate::kind::{Key, ReadKind, head_key, kind_of};
-use crate::parts::{Parts, add_clause, empty};
+use crate::parts::{Parts, add_cells, add_clause, body_of, empty};
 use std::alloc::Global;
-use tp_lex::{LexFault, next_token};
+use tp_lex::{LexFault, Token, next_token};
 use tp_parse::{ReadCause, ReadFault, ReadTerm, read_clause};
 use tp_terms::symbols::INF;
-use tp_terms::{Atoms, Cells, NoMemory, Ref};
+use tp_terms::{Atoms, Cell, Cells, NoMemory, Ref};
 
 /// The most read terms of a text, directives counted.
 const MOST_TERMS: u64 = 1_000_000;
@@ -48,10 +49,11 @@ pub fn load_text(alloc: Global, text: &str, atoms: &mut Atoms) -> Result<Parts, 
     ensures model { TellsParts atoms.new result (model_from most_terms 1 text.now start_table 0) }
     ensures parts { IfOk result IsParts }
     ensures grows { Grows atoms.old atoms.new }
+    ensures memory { result ≡ Err LoadFault.NoMemory → AsksMemory text.now }
 {
-    let mut parts = match empty(alloc) {
+    let mut parts = match begin(alloc, text) {
         Ok(parts) => parts,
-        Err(NoMemory) => return Err(LoadFault::NoMemory),
+        Err(fault) => return Err(fault),
     };
     let mut at = 0;
     'terms: for before in 0..MOST_TERMS {
@@ -67,14 +69,38 @@ pub fn load_text(alloc: Global, text: &str, atoms: &mut Atoms) -> Result<Parts, 
     }
 }
 
+/// No clause yet, where the first token isn't refused.
+fn begin(alloc: Global, text: &str) -> Result<Parts, LoadFault>
+    ensures { TellsBegin result (next text.now 0) }
+{
+    match token_at(text, 0, 1) {
+        Ok(_) => match empty(alloc) {
+            Ok(parts) => Ok(parts),
+            Err(NoMemory) => Err(LoadFault::NoMemory),
+        },
+        Err(fault) => Err(fault),
+    }
+}
+
 /// Sees that no further read term begins.
 fn end_of(text: &str, at: usize, number: u64) -> Result<(), LoadFault>
     requires { IsCharBoundary text.now at }
     ensures { TellsEnd number result (next text.now at) }
 {
-    match next_token(text, at) {
+    match token_at(text, at, number) {
         Ok(None) => Ok(()),
         Ok(Some(token)) => Err(refused(number, token.from, Cause::Many)),
+        Err(fault) => Err(fault),
+    }
+}
+
+/// The next token from a byte on, where the read term of this number may begin.
+fn token_at(text: &str, at: usize, number: u64) -> Result<Option<Token>, LoadFault>
+    requires { IsCharBoundary text.now at }
+    ensures { TellsToken number result (next text.now at) }
+{
+    match next_token(text, at) {
+        Ok(found) => Ok(found),
         Err(LexFault::BadToken(byte)) => Err(refused(number, byte, Cause::Token)),
         Err(LexFault::NumberRange(byte)) => Err(refused(number, byte, Cause::Number)),
         Err(LexFault::Unfinished(byte)) => Err(refused(number, byte, Cause::Unfinished)),
@@ -103,9 +129,10 @@ fn read_next(
 ) -> Result<Option<usize>, LoadFault>
     requires place { IsCharBoundary text.now at }
     requires parts { IsParts parts.old }
-    requires known { AreNamed (length atoms.old) parts.old.cells.items }
+    requires known { AreNamed (length atoms.old) parts.old.store.cells }
     ensures read { TellsStep atoms.new parts.old parts.new text.now at number result }
     ensures grows { Grows atoms.old atoms.new }
+    ensures memory { result ≡ Err LoadFault.NoMemory → is_ok (next text.now at) ≡ true }
 {
     match read_clause(alloc, text, at, &parts.ops, atoms) {
         Ok(None) => Ok(None),
@@ -147,15 +174,15 @@ fn take_read(
     requires within { (read.root).at < length (read.cells).items }
     requires named { AreNamed (length atoms.now) (read.cells).items }
     requires below { AreBelow (read.cells).items read.vars read.root }
-    requires known { AreNamed (length atoms.now) parts.old.cells.items }
+    requires known { AreNamed (length atoms.now) parts.old.store.cells }
     ensures { TellsRead atoms.now parts.old parts.new number read.from result (outcome (table_of parts.old.ops) (kind_of (table_of parts.old.ops) (shows atoms.now (read.cells).items (read.root).at) read.vars)) }
 {
     let (root, vars, from) = (read.root, read.vars, read.from);
-    let mut cells = read.cells;
+    let cells = read.cells;
     let (places, known) = (cells.len(), atoms.len());
     prove!(root.at < places);
     prove!(INF.at < known);
-    match take_term(parts, alloc, &mut cells, root, vars, atoms) {
+    match take_term(parts, alloc, &cells, root, vars, atoms) {
         Ok(()) => Ok(()),
         Err(TermFault::NoMemory) => Err(LoadFault::NoMemory),
         Err(TermFault::Refused(cause)) => Err(refused(number, from, cause)),
@@ -166,18 +193,20 @@ fn take_read(
 fn take_term(
     parts: &mut Parts,
     alloc: Global,
-    cells: &mut Cells,
+    cells: &Cells,
     root: Ref,
     vars: u64,
     atoms: &Atoms,
 ) -> Result<(), TermFault>
     requires parts { IsParts parts.old }
-    requires within { root.at < length cells.old.items }
-    requires names { HasNames atoms.now cells.old.items }
-    requires built { AreBuilt cells.old.items }
-    requires below { AreBelow cells.old.items vars root }
-    requires known { AreNamed (length atoms.now) parts.old.cells.items }
-    ensures { TellsTerm atoms.now parts.old parts.new result (outcome (table_of parts.old.ops) (kind_of (table_of parts.old.ops) (shows atoms.now cells.old.items root.at) vars)) }
+    requires within { root.at < length cells.now.items }
+    requires names { HasNames atoms.now cells.now.items }
+    requires built { AreBuilt cells.now.items }
+    requires below { AreBelow cells.now.items vars root }
+    requires known { AreNamed (length atoms.now) parts.old.store.cells }
+    ensures told { TellsTerm atoms.now parts.old parts.new result (outcome (table_of parts.old.ops) (kind_of (table_of parts.old.ops) (shows atoms.now cells.now.items root.at) vars)) }
+    ensures memory { result ≡ Err TermFault.NoMemory →
+        MayTake cells.now.items root (read_as (slice_get cells.now.items root.at)) }
 {
     match kind_of(cells, root) {
         ReadKind::Directive { goal } => run(cells, goal, atoms, &mut parts.ops),
@@ -200,17 +229,19 @@ fn take_fact(
     requires within { head.at < length cells.now.items }
     requires built { AreBuilt cells.now.items }
     requires below { AreBelow cells.now.items vars head }
-    ensures { (names : List Name) → HasNames names cells.now.items → AreNamed (length names) parts.old.cells.items →
+    ensures told { (names : List Name) → HasNames names cells.now.items → AreNamed (length names) parts.old.store.cells →
         TellsTerm names parts.old parts.new result (outcome (table_of parts.old.ops) (OfClause (with_head (shows names cells.now.items head.at) vars None))) }
+    ensures memory { result ≡ Err TermFault.NoMemory → MayDefine cells.now.items head }
 {
     match head_key(cells, head) {
         Ok(key) => {
+            let by = add_cells(parts, cells)?;
             let view = ClauseView {
-                head,
+                head: place_on(head, by),
                 body: None,
                 vars,
             };
-            add_clause(parts, alloc, cells, view, key)?;
+            add_clause(parts, alloc, view, key)?;
             Ok(())
         }
         Err(cause) => Err(TermFault::Refused(cause)),
@@ -221,20 +252,22 @@ fn take_fact(
 fn take_rule(
     parts: &mut Parts,
     alloc: Global,
-    cells: &mut Cells,
+    cells: &Cells,
     head: Ref,
     body: Ref,
     vars: u64,
 ) -> Result<(), TermFault>
     requires parts { IsParts parts.old }
-    requires head { head.at < length cells.old.items }
-    requires body { body.at < length cells.old.items }
-    requires built { AreBuilt cells.old.items }
-    requires nameable { IsNameable cells.old.items }
-    requires head_below { AreBelow cells.old.items vars head }
-    requires body_below { AreBelow cells.old.items vars body }
-    ensures { (names : List Name) → HasNames names cells.old.items → AreNamed (length names) parts.old.cells.items →
-        TellsTerm names parts.old parts.new result (outcome (table_of parts.old.ops) (OfClause (rule (shows names cells.old.items head.at) (shows names cells.old.items body.at) vars))) }
+    requires head { head.at < length cells.now.items }
+    requires body { body.at < length cells.now.items }
+    requires built { AreBuilt cells.now.items }
+    requires nameable { AreNameable parts.old.store.cells cells.now.items }
+    requires head_below { AreBelow cells.now.items vars head }
+    requires body_below { AreBelow cells.now.items vars body }
+    ensures told { (names : List Name) → HasNames names cells.now.items → AreNamed (length names) parts.old.store.cells →
+        TellsTerm names parts.old parts.new result (outcome (table_of parts.old.ops) (OfClause (rule (shows names cells.now.items head.at) (shows names cells.now.items body.at) vars))) }
+    ensures memory { result ≡ Err TermFault.NoMemory →
+        MayDefine cells.now.items head × IsNoInteger (slice_get cells.now.items body.at) }
 {
     match head_key(cells, head) {
         Ok(key) => take_body(parts, alloc, cells, head, body, vars, key),
@@ -246,31 +279,38 @@ fn take_rule(
 fn take_body(
     parts: &mut Parts,
     alloc: Global,
-    cells: &mut Cells,
+    cells: &Cells,
     head: Ref,
     body: Ref,
     vars: u64,
     key: Key,
 ) -> Result<(), TermFault>
     requires parts { IsParts parts.old }
-    requires head { head.at < length cells.old.items }
-    requires body { body.at < length cells.old.items }
-    requires built { AreBuilt cells.old.items }
-    requires key { head_key (slice_get cells.old.items head.at) ≡ Ok key }
-    requires nameable { IsNameable cells.old.items }
-    requires head_below { AreBelow cells.old.items vars head }
-    requires body_below { AreBelow cells.old.items vars body }
-    ensures { (names : List Name) → HasNames names cells.old.items → AreNamed (length names) parts.old.cells.items →
-        TellsTerm names parts.old parts.new result (outcome (table_of parts.old.ops) (OfClause (rule (shows names cells.old.items head.at) (shows names cells.old.items body.at) vars))) }
+    requires head { head.at < length cells.now.items }
+    requires body { body.at < length cells.now.items }
+    requires built { AreBuilt cells.now.items }
+    requires key { key_of (slice_get cells.now.items head.at) ≡ Some key }
+    requires free { (names : List Name) → HasNames names cells.now.items →
+        head_key names (slice_get cells.now.items head.at) ≡ Ok key }
+    requires nameable { AreNameable parts.old.store.cells cells.now.items }
+    requires head_below { AreBelow cells.now.items vars head }
+    requires body_below { AreBelow cells.now.items vars body }
+    ensures told { (names : List Name) → HasNames names cells.now.items → AreNamed (length names) parts.old.store.cells →
+        TellsTerm names parts.old parts.new result (outcome (table_of parts.old.ops) (OfClause (rule (shows names cells.now.items head.at) (shows names cells.now.items body.at) vars))) }
+    ensures memory { result ≡ Err TermFault.NoMemory → IsNoInteger (slice_get cells.now.items body.at) }
 {
-    match body_of(alloc, cells, body)? {
+    if let Cell::Int(_) = cells.get(body) {
+        return Err(TermFault::Refused(Cause::Body));
+    }
+    let by = add_cells(parts, cells)?;
+    match body_of(parts, place_on(body, by))? {
         Some(place) => {
             let view = ClauseView {
-                head,
+                head: place_on(head, by),
                 body: Some(place),
                 vars,
             };
-            add_clause(parts, alloc, cells, view, key)?;
+            add_clause(parts, alloc, view, key)?;
             Ok(())
         }
         None => Err(TermFault::Refused(Cause::Body)),

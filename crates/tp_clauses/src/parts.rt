@@ -1,12 +1,13 @@
 //! What a base is made of.
 
-ghost use Rattle.std.specs.Prelude.{◌≡◌, ◌<◌, ◌+◌, ◌^◌, [], length, slice_get, Ok, IfOk, IfSome, OnOk};
+ghost use Rattle.std.specs.Prelude.{◌≡◌, ◌<◌, ◌+◌, ◌^◌, length, map, slice_get, Some, IfOk, OnOk};
 ghost use Rattle.tp_parse.specs.Ops.{table_of};
 ghost use Rattle.tp_parse.specs.Table.{start_table};
+ghost use Rattle.tp_clauses.specs.Bodies.{TellsBody};
 ghost use Rattle.tp_clauses.specs.Contents.{ViewFits};
-ghost use Rattle.tp_clauses.specs.Kinds.{head_key};
-ghost use Rattle.tp_clauses.specs.Moved.{moved_view, place_on};
-ghost use Rattle.tp_clauses.specs.Parts.{AddsClause, IsEmpty, IsParts};
+ghost use Rattle.tp_clauses.specs.Kinds.{key_of};
+ghost use Rattle.tp_clauses.specs.Moved.{moved};
+ghost use Rattle.tp_clauses.specs.Parts.{AddsClause, IsEmpty, IsParts, Longer};
 
 use crate::append::append;
 use crate::base::{ClauseId, ClauseView};
@@ -14,14 +15,15 @@ use crate::index::Index;
 use crate::kind::Key;
 use std::alloc::Global;
 use tp_parse::Ops;
+use tp_store::Store;
 use tp_terms::{Cells, NoMemory, Ref};
 
-/// The cells of all clauses, the clauses in text order, their places by name and number of arguments, and the table of
-/// operators.
+/// The clauses in text order, a store of their cells in which no variable is bound, their places by
+/// name and number of arguments, and the table of operators.
 #[derive(Drop)]
 pub struct Parts {
     /// The cells.
-    pub cells: Cells,
+    pub store: Store,
     /// The clauses.
     pub clauses: Vec<ClauseView>,
     /// Their places.
@@ -35,60 +37,50 @@ pub fn empty(alloc: Global) -> Result<Parts, NoMemory>
     ensures { IfOk result IsEmpty }
 {
     Ok(Parts {
-        cells: Cells::new(alloc),
+        store: Store::new(alloc),
         clauses: Vec::new(alloc),
         index: Index::new(alloc),
         ops: Ops::start(alloc)?,
     })
 }
 
-/// A place moved on.
-fn place_on(place: Ref, by: usize) -> Ref
-    requires { place.at + by < 2 ^ 64 }
-    ensures { result ≡ place_on by place }
+/// Adds all cells of `more` behind the others, and answers how far their places are moved on. Want of
+/// memory leaves some of them.
+pub fn add_cells(parts: &mut Parts, more: &Cells) -> Result<usize, NoMemory>
+    requires { IsParts parts.old }
+    ensures by { IfOk result (λ by. by ≡ length parts.old.store.cells) }
+    ensures longer { OnOk result (Longer parts.old parts.new
+        (map (moved (length parts.old.store.cells)) more.now.items)) }
+    ensures fits { OnOk result (length parts.old.store.cells + length more.now.items < 2 ^ 64) }
 {
-    Ref { at: place.at + by }
+    append(&mut parts.store, more)
 }
 
-/// A clause whose places are moved on.
-fn moved_view(view: ClauseView, by: usize) -> ClauseView
-    requires head { (view.head).at + by < 2 ^ 64 }
-    requires body { IfSome view.body (λ place. place.at + by < 2 ^ 64) }
-    ensures { result ≡ moved_view by view }
+/// The place of the body of a term, where it has one.
+pub fn body_of(parts: &mut Parts, term: Ref) -> Result<Option<Ref>, NoMemory>
+    requires parts { IsParts parts.old }
+    requires within { term.at < length parts.old.store.cells }
+    ensures { IfOk result (TellsBody parts.old parts.new term) }
 {
-    let head = place_on(view.head, by);
-    match view.body {
-        Some(place) => ClauseView {
-            head,
-            body: Some(place_on(place, by)),
-            vars: view.vars,
-        },
-        None => ClauseView {
-            head,
-            body: None,
-            vars: view.vars,
-        },
-    }
+    parts.store.body(term)
 }
 
-/// Adds a clause that stands in cells of its own. Want of memory may leave some of it.
+/// Adds a clause whose cells stand. Want of memory may leave some of it.
 pub fn add_clause(
     parts: &mut Parts,
     alloc: Global,
-    cells: &Cells,
     view: ClauseView,
     key: Key,
 ) -> Result<(), NoMemory>
     requires parts { IsParts parts.old }
-    requires fits { ViewFits cells.now.items view }
-    requires key { head_key (slice_get cells.now.items (view.head).at) ≡ Ok key }
-    ensures { OnOk result (AddsClause parts.old parts.new cells.now.items view) }
+    requires fits { ViewFits parts.old.store.cells view }
+    requires key { key_of (slice_get parts.old.store.cells (view.head).at) ≡ Some key }
+    ensures { OnOk result (AddsClause parts.old parts.new view) }
 {
-    let by = append(&mut parts.cells, cells)?;
     let id = ClauseId {
         at: parts.clauses.len(),
     };
     parts.index.add(alloc, key, id)?;
-    parts.clauses.push(moved_view(view, by))?;
+    parts.clauses.push(view)?;
     Ok(())
 }

@@ -10,7 +10,7 @@ use std::alloc::Global;
 use std::marker::Model;
 use tp_terms::{Event, NoMemory};
 
-/// Events, the newest last. A model's contracts see the list of them.
+/// Events, the newest last. Contracts see them as a list.
 #[derive(Drop)]
 pub struct Events {
     events: Vec<Event>,
@@ -26,7 +26,7 @@ impl Model for Events {
 }
 
 impl Events {
-    /// No events.
+    /// No events. Takes no memory.
     pub fn new(alloc: Global) -> Self
         ensures { result ≡ [] }
     {
@@ -35,7 +35,10 @@ impl Events {
         }
     }
 
-    /// Adds an event. Where memory is refused, the list stays.
+    /// Adds an event behind the others.
+    ///
+    /// # Errors
+    /// `NoMemory` where memory was refused, and then the events stay.
     pub fn push(&mut self, event: Event) -> Result<(), NoMemory>
         ensures added { OnOk result (self.new ≡ self.old ++ event ∷ []) }
         ensures stays { OnErr result (self.new ≡ self.old) }
@@ -44,28 +47,28 @@ impl Events {
         Ok(())
     }
 
-    /// The event at a place, counted from 0. There is none past the end.
+    /// The event at a place, counted from 0, and `None` exactly past the end. Takes no memory.
     pub fn get(&self, at: usize) -> Option<Event>
         ensures { result ≡ slice_get self.now at }
     {
         self.events.get(at).copied()
     }
 
-    /// The number of events.
+    /// The number of events. Takes no memory.
     pub fn len(&self) -> usize
         ensures { result ≡ length self.now }
     {
         self.events.len()
     }
 
-    /// Whether there are no events.
+    /// Whether there are no events. Takes no memory.
     pub fn is_empty(&self) -> bool
         ensures { result ≡ nat_eq (length self.now) 0 }
     {
         self.events.is_empty()
     }
 
-    /// Takes all events away but the first ones, so many of them. Where there are fewer, all stay.
+    /// Keeps the first `len` events. Where there are no more than these, all stay. Takes no memory.
     pub fn cut_to(&mut self, len: usize)
         ensures { self.new ≡ take len self.old }
     {
@@ -74,7 +77,8 @@ impl Events {
 
     /// The same events again.
     ///
-    /// Answers `NoMemory` where the memory for them isn't had.
+    /// # Errors
+    /// `NoMemory` where memory was refused.
     pub fn copy_all(&self) -> Result<Events, NoMemory>
         ensures { IfOk result (λ copy. copy ≡ self.now) }
     {

@@ -1,45 +1,40 @@
-//! Histories that are added to and cut.
+//! A history that is added to, cut and copied.
 
 use crate::Events;
 use tp_terms::{Event, EventKind, NoMemory, Ref};
 
-/// An event of the first process at a time.
-fn event(time: i64, kind: EventKind) -> Event {
-    Event { time, pid: 0, kind }
+/// Times and events, in the order in which they come.
+const EVENTS: [(i64, EventKind); 3] = [
+    (0, EventKind::Start),
+    (-2, EventKind::Take(Ref { at: 7 })),
+    (3, EventKind::End),
+];
+
+/// The event of a row.
+fn event(row: (i64, EventKind)) -> Event {
+    Event {
+        time: row.0,
+        pid: 0,
+        kind: row.1,
+    }
 }
 
 #[test]
 fn keeps_events_in_order(rt: HostRuntime) -> Result<(), NoMemory> {
     let mut events = Events::new(rt.alloc());
     assert!(rt; events.is_empty());
-    assert_eq!(rt; events.get(0), None);
-    events.push(event(0, EventKind::Start))?;
-    events.push(event(3, EventKind::End))?;
-    assert_eq!(rt; events.len(), 2);
-    assert_eq!(rt; events.get(0), Some(event(0, EventKind::Start)));
-    assert_eq!(rt; events.get(1), Some(event(3, EventKind::End)));
-    assert_eq!(rt; events.get(2), None);
-    events.cut_to(1);
-    assert_eq!(rt; events.get(0), Some(event(0, EventKind::Start)));
-    assert_eq!(rt; events.get(1), None);
-    events.cut_to(5);
-    assert_eq!(rt; events.len(), 1);
-    events.push(event(-2, EventKind::Take(Ref { at: 7 })))?;
-    assert_eq!(rt;
-        events.get(1),
-        Some(event(-2, EventKind::Take(Ref { at: 7 })))
-    );
-    events.cut_to(0);
-    assert!(rt; events.is_empty());
-    Ok(())
-}
-
-#[test]
-fn copies_all_events(rt: HostRuntime) -> Result<(), NoMemory> {
-    let mut events = Events::new(rt.alloc());
-    events.push(event(4, EventKind::Start))?;
+    for row in EVENTS {
+        events.push(event(row))?;
+    }
     let copy = events.copy_all()?;
-    assert_eq!(rt; copy.len(), 1);
-    assert_eq!(rt; copy.get(0), Some(event(4, EventKind::Start)));
+    for (len, left) in [(5, 3), (3, 3), (1, 1), (0, 0)] {
+        events.cut_to(len);
+        assert_eq!(rt; events.len(), left, "cut to {len}");
+        assert_eq!(rt; events.get(left), None, "cut to {len}");
+        assert_eq!(rt; events.is_empty(), left == 0, "cut to {len}");
+    }
+    for (at, row) in EVENTS.iter().enumerate() {
+        assert_eq!(rt; copy.get(at), Some(event(*row)), "at {at}");
+    }
     Ok(())
 }

@@ -6,7 +6,7 @@ use Rattle.tp_lex.specs.Characters.{newline}
 use Rattle.tp_lex.specs.Layout.{after_line, after_comment, comment_end, after_gap, past_gaps, past_layout}
 use Rattle.tp_lex.specs.declared.token.Fault.{Fault}
 use Rattle.tp_lex.proofs.SuffixLemmas.{ends-length}
-use Rattle.tp_lex.proofs.EndLemmas.{OkSomeEnd, gap_step, after_gap-none, after_gap-ends}
+use Rattle.tp_lex.proofs.StandsBehind.Ends.{OkSomeEnd, gap_step, after_gap-none, after_gap-ends}
 
 pub after_line-goes : (c : ℕ) (cs all : List ℕ) → all ≡ c ∷ cs → ¬ (c ≡ newline) → after_line all ≡ after_line cs
 unfolding after_line

@@ -1,11 +1,11 @@
+pub mod CharacterLemmas
 pub mod TokensLemmas
-pub mod NextLemmas
 pub mod MeaningLemmas
 pub mod TokenLemmas
 pub mod PlaceLemmas
 pub mod QuoteLemmas
 pub mod SuffixLemmas
-pub mod EndLemmas
+pub mod StandsBehind
 pub mod RunLemmas
 pub mod LayoutLemmas
 pub mod DigitLemmas

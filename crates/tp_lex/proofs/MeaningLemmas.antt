@@ -9,7 +9,7 @@ use Rattle.tp_lex.specs.declared.token.Token.{Token}
 use Rattle.tp_lex.specs.Seen.{capped}
 use Rattle.tp_lex.specs.Next.{from_byte, token_name, token_value}
 use Rattle.tp_lex.proofs.TokenLemmas.{Formed, slice-spelled}
-use Rattle.tp_lex.proofs.NextLemmas.{small}
+use Rattle.tp_lex.proofs.StandsBehind.NextToken.{small}
 use Rattle.tp_lex.proofs.DigitLemmas.{pair_of}
 use Rattle.std.specs.Char.{is_digit}
 use Rattle.std.proofs.lemmas.Bool.{eqb-true}

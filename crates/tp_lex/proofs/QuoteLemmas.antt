@@ -1,21 +1,13 @@
 -- The inside of quotes, one item at a time.
-use Rattle.std.proofs.Common.{◌≡◌, ℕ, zero, suc, ◌<◌, ◌≤◌, List, [], ◌∷◌, ◌++◌, length, chars, encode_utf8, Ok, Err, refl, sym, ap, ◌∙◌, arith, append-nil}
+use Rattle.std.proofs.Common.{◌≡◌, ℕ, zero, suc, ◌<◌, ◌≤◌, List, [], ◌∷◌, ◌++◌, length, Ok, Err, refl, sym, ap, ◌∙◌, arith, append-nil}
 use Rattle.std.specs.Prelude.{Result, IsOk}
 use Rattle.std.proofs.Common.{append_assoc}
-use Rattle.std.specs.Char.{IsScalar}
-use Rattle.std.specs.Str.{IsUtf8}
-use Rattle.std.proofs.lemmas.Str.{chars-append, chars_past_char, chars-nil, IsUtf8-encode}
 use Rattle.tp_lex.specs.Quotes.{item, with_first, items, inside, stood_for, after_closing, item_chars}
 use Rattle.tp_lex.specs.declared.token.Fault.{Fault}
 use Rattle.tp_lex.specs.declared.quotes.Item.{Item}
 use Rattle.tp_lex.specs.declared.quotes.Item.TheVariants.{Stands, Skipped, Closed}
 use Rattle.tp_lex.proofs.SuffixLemmas.{ends-length}
-use Rattle.tp_lex.proofs.EndLemmas.{OkEnd, step_of, item-none, item-ends}
-
-pub chars-pushed : (old new : List ℕ) (c : ℕ) → IsUtf8 old → IsScalar c → new ≡ old ++ encode_utf8 c → chars new ≡ chars old ++ c ∷ []
-chars-pushed old new c u s e =
-    let one : chars (encode_utf8 c) ≡ c ∷ [] = chars_past_char (encode_utf8 c) [] c (IsUtf8-encode c s) (sym (append-nil (encode_utf8 c))) ∙ ap (λ l. c ∷ l) chars-nil in
-    ap chars e ∙ chars-append old (encode_utf8 c) u ∙ ap (λ l. chars old ++ l) one
+use Rattle.tp_lex.proofs.StandsBehind.Ends.{OkEnd, step_of, item-none, item-ends}
 
 -- a bound that is large enough changes nothing
 pub items-more : (mark n m : ℕ) (cs : List ℕ) → length cs ≤ n → length cs ≤ m → items mark n cs ≡ items mark m cs

@@ -11,7 +11,7 @@ use Rattle.tp_lex.specs.Layout.{past_layout}
 use Rattle.tp_lex.specs.Form.{form, spelled, before}
 use Rattle.tp_lex.specs.Next.{byte_of, from_byte, placed, token_in, next, StandsBehind}
 use Rattle.tp_lex.proofs.SuffixLemmas.{EndsWith, ends-cons, ends-trans}
-use Rattle.tp_lex.proofs.EndLemmas.{OkEnd, past_layout-ends, form-ends}
+use Rattle.tp_lex.proofs.StandsBehind.Ends.{OkEnd, past_layout-ends, form-ends}
 use Rattle.tp_lex.proofs.PlaceLemmas.{place_of, bytes-shorter, scalars-front}
 
 -- what begins at a token's first byte is that token

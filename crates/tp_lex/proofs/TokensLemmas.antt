@@ -10,7 +10,7 @@ use Rattle.tp_lex.specs.Layout.{past_layout}
 use Rattle.tp_lex.specs.Next.{from_byte, token_in, next}
 use Rattle.tp_lex.specs.Tokens.{Lexed, Reach, lexed, with_token, stops_at, tokens_by_next, tokens_up_to, tokens_from}
 use Rattle.tp_lex.proofs.LayoutLemmas.{past_layout-stops}
-use Rattle.tp_lex.proofs.EndLemmas.{after_gap-none}
+use Rattle.tp_lex.proofs.StandsBehind.Ends.{after_gap-none}
 use Rattle.tp_lex.proofs.TokenLemmas.{given}
 
 -- at the end of the text there is none

@@ -1,6 +1,6 @@
 -- Classes of characters, and runs of characters of one class.
-use Rattle.std.specs.Prelude.{ℕ, Bool, not, codes, ◌&&◌, ◌||◌, ◌==◌, List, [], ◌∷◌, if◌then◌else◌}
-use Rattle.std.specs.List.{list_any}
+use Rattle.std.specs.Prelude.{ℕ, Bool, false, not, codes, ◌&&◌, ◌||◌, ◌==◌, List, [], ◌∷◌, if◌then◌else◌}
+use Rattle.std.specs.List.{list_any, list_all}
 use Rattle.std.specs.Int.{is_in_range}
 use Rattle.std.specs.Char.{is_ascii_uppercase}
 use Rattle.unicode_ident.specs.Ident.{is_xid_start, is_xid_continue}
@@ -53,6 +53,11 @@ is_variable_start c = (c == 95) || is_ascii_uppercase c
 abbrev pub is_in_class : Class → ℕ → Bool
 is_in_class Continuing c = is_xid_continue c
 is_in_class Graphic c = is_graphic c
+
+-- a letter-digit name: a character that begins one, and only characters that go on with it
+abbrev pub is_letter_digit : List ℕ → Bool
+is_letter_digit [] = false
+is_letter_digit (c ∷ cs) = is_name_start c && list_all (is_in_class Continuing) cs
 
 -- what follows as many characters of a class as follow each other
 unfoldable pub after_run : Class → List ℕ → List ℕ

@@ -14,7 +14,8 @@ after_digits base (c ∷ cs) = if is_digit c base then after_digits base cs else
 -- the value of as many digits as follow each other, behind digits of a value
 unfoldable pub value_with : ℕ → ℕ → List ℕ → ℕ
 value_with base value [] = value
-value_with base value (c ∷ cs) = if is_digit c base then value_with base (value * base + digit_value c) cs else value
+value_with base value (c ∷ cs) =
+    if is_digit c base then value_with base (value * base + digit_value c) cs else value
 
 -- the number that the digits at the front stand for, and what follows it
 abbrev pub number : ℕ → List ℕ → ℕ × List ℕ

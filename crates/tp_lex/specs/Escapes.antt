@@ -7,8 +7,8 @@ use Rattle.tp_lex.specs.Digits.{number}
 use Rattle.tp_lex.specs.declared.token.Fault.{Fault}
 use Rattle.tp_lex.specs.declared.token.Fault.TheVariants.{BadToken, Unfinished}
 
--- `\a` is 7, `\b` 8, `\t` 9, `\n` 10, `\v` 11, `\f` 12, `\r` 13; a backslash, a quote of either kind and a backquote
--- stand for themselves
+-- `\a` is 7, `\b` 8, `\t` 9, `\n` 10, `\v` 11, `\f` 12, `\r` 13; a backslash, a quote of either
+-- kind and a backquote stand for themselves
 abbrev pub letter_escape : ℕ → Option ℕ
 letter_escape c =
     if c == 97 then Some 7
@@ -24,7 +24,8 @@ letter_escape c =
 -- a code that its closing backslash follows, which must be that of a character
 abbrev pub closed_code : ℕ → List ℕ → Result (Option ℕ × List ℕ) Fault
 closed_code value [] = Err Unfinished
-closed_code value (c ∷ cs) = if (c == backslash) && scalar value then Ok (Some value, cs) else Err BadToken
+closed_code value (c ∷ cs) =
+    if (c == backslash) && scalar value then Ok (Some value, cs) else Err BadToken
 
 -- one or more digits and a closing backslash
 unfoldable pub code_escape : ℕ → List ℕ → Result (Option ℕ × List ℕ) Fault
@@ -38,8 +39,8 @@ abbrev pub plain_escape : Option ℕ → List ℕ → Result (Option ℕ × List
 plain_escape (Some code) cs = Ok (Some code, cs)
 plain_escape None cs = Err BadToken
 
--- from behind the backslash: the character that stands there, none for a backslash at a line's end, and what follows;
--- `x` is 120; Unfinished where the characters end in the escape
+-- from behind the backslash: the character that stands there, none for a backslash at a line's end,
+-- and what follows; `x` is 120; Unfinished where the characters end in the escape
 unfoldable pub escape : List ℕ → Result (Option ℕ × List ℕ) Fault
 escape [] = Err Unfinished
 escape (c ∷ cs) =

@@ -14,7 +14,8 @@ use Rattle.tp_lex.specs.declared.token.TokenKind.TheVariants.{Name, Quoted, Vari
 abbrev pub largest : ℕ
 largest = 9223372036854775808
 
--- a character that is a token by itself: `!` and `;` are Names, then `(`, `)`, `[`, `]`, `{`, `}`, `,` and the bar
+-- a character that is a token by itself: `!` and `;` are Names, then `(`, `)`, `[`, `]`, `{`, `}`,
+-- `,` and the bar
 abbrev pub single : ℕ → Option TokenKind
 single c =
     if (c == 33) || (c == 59) then Some Name
@@ -39,7 +40,8 @@ graphic_form c cs = if (c == dot) && ends_clause cs then (End, cs) else (Name, a
 
 -- an integer's form
 abbrev pub integer_form : Option (ℕ × List ℕ) → Result (TokenKind × List ℕ) Fault
-integer_form (Some number) = if nat_le number.0 largest then Ok (Integer, number.1) else Err NumberRange
+integer_form (Some number) =
+    if nat_le number.0 largest then Ok (Integer, number.1) else Err NumberRange
 integer_form None = Err BadToken
 
 -- the form of characters between quotes

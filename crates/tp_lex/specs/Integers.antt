@@ -15,8 +15,8 @@ abbrev pub escaped_code : Result (Option ℕ × List ℕ) Fault → Option (ℕ 
 escaped_code (Ok e) = elim e.0 [ Some c ↦ Some (c, e.1) | None ↦ None ]
 escaped_code (Err fault) = None
 
--- behind `0'`: one character that is neither a quote, a backslash nor a newline, or a doubled quote, or an escape other
--- than a backslash at a line's end; anything else is no token
+-- behind `0'`: one character that is neither a quote, a backslash nor a newline, or a doubled
+-- quote, or an escape other than a backslash at a line's end; anything else is no token
 unfoldable pub character_code : List ℕ → Option (ℕ × List ℕ)
 character_code [] = None
 character_code (c ∷ cs) =
@@ -27,7 +27,11 @@ character_code (c ∷ cs) =
 
 -- the base that the letter behind a zero names: `x`, `o` or `b`
 abbrev pub base_of : ℕ → Option ℕ
-base_of c = if c == 120 then Some 16 else if c == 111 then Some 8 else if c == 98 then Some 2 else None
+base_of c =
+    if c == 120 then Some 16
+    else if c == 111 then Some 8
+    else if c == 98 then Some 2
+    else None
 
 -- behind a zero and a letter that names a base: digits, or else the token is the zero alone
 abbrev pub based : ℕ → List ℕ → List ℕ → ℕ × List ℕ
@@ -38,7 +42,10 @@ unfoldable pub after_zero : List ℕ → Option (ℕ × List ℕ)
 after_zero [] = Some (0, [])
 after_zero (c ∷ cs) =
     if c == quote then character_code cs
-    else elim (base_of c) [ Some base ↦ Some (based base (c ∷ cs) cs) | None ↦ Some (number 10 (c ∷ cs)) ]
+    else elim (base_of c) [
+      | Some base ↦ Some (based base (c ∷ cs) cs)
+      | None ↦ Some (number 10 (c ∷ cs))
+    ]
 
 -- from the first digit on, 48 being `0`; none where it is no token
 unfoldable pub integer : List ℕ → Option (ℕ × List ℕ)

@@ -18,7 +18,8 @@ comment_end (c ∷ d ∷ cs) = if (c == star) && (d == slash) then Some cs else 
 -- what follows the next `*/`, if there is one
 unfoldable pub after_comment : List ℕ → Option (List ℕ)
 after_comment [] = None
-after_comment (c ∷ cs) = elim (comment_end (c ∷ cs)) [ Some rest ↦ Some rest | None ↦ after_comment cs ]
+after_comment (c ∷ cs) =
+    elim (comment_end (c ∷ cs)) [ Some rest ↦ Some rest | None ↦ after_comment cs ]
 
 -- a comment that `/*` has opened ends at the next `*/`
 abbrev pub closed : Option (List ℕ) → Result (Option (List ℕ)) Fault

@@ -25,8 +25,10 @@ fault_at fault.NumberRange byte = at_byte.NumberRange byte
 fault_at fault.Unfinished byte = at_byte.Unfinished byte
 
 -- a form that begins with these characters, with its bytes
-abbrev pub placed : List ℕ → List ℕ → Result (TokenKind × List ℕ) Fault → Result (Option Token) LexFault
-placed text start (Ok found) = Ok (Some (record { kind = found.0; from = byte_of text start; to = byte_of text found.1 }))
+abbrev pub placed : List ℕ → List ℕ → Result (TokenKind × List ℕ) Fault
+    → Result (Option Token) LexFault
+placed text start (Ok found) =
+    Ok (Some (record { kind = found.0; from = byte_of text start; to = byte_of text found.1 }))
 placed text start (Err flaw) = Err (fault_at flaw (byte_of text start))
 
 -- the token behind layout and comments, if there is one

@@ -44,7 +44,8 @@ items mark (suc most) cs =
       | Err fault ↦ Err fault
     ]
 
--- from behind the opening quote: the characters that the inside stands for, and what follows the closing quote
+-- from behind the opening quote: the characters that the inside stands for, and what follows the
+-- closing quote
 unfoldable pub inside : ℕ → List ℕ → Result (List ℕ × List ℕ) Fault
 inside mark cs = items mark (length cs) cs
 

@@ -6,7 +6,8 @@ use Rattle.tp_lex.specs.declared.token.TokenKind.TheVariants.{End}
 use Rattle.tp_lex.specs.declared.token.Token.{Token}
 use Rattle.tp_lex.specs.declared.token.LexFault.{LexFault}
 
--- a token: its kind, its bytes, its name or value, and whether it stands directly after the one before
+-- a token: its kind, its bytes, its name or value, and whether it stands directly after the one
+-- before
 pub record Lexed : Type 0 where
   pub kind : TokenKind
   pub from : ℕ
@@ -50,7 +51,9 @@ stops_at ToEnd kind = is_end kind
 stops_at ToTextEnd kind = false
 
 -- the tokens, by the next one and by those that stand behind a byte
-abbrev pub tokens_by_next : Reach → List ℕ → Option ℕ → (ℕ → Option ℕ → Result (List Lexed) LexFault) → Result (Option Token) LexFault → Result (List Lexed) LexFault
+abbrev pub tokens_by_next : Reach → List ℕ → Option ℕ
+    → (ℕ → Option ℕ → Result (List Lexed) LexFault)
+    → Result (Option Token) LexFault → Result (List Lexed) LexFault
 tokens_by_next reach text end behind next_one =
     elim next_one [
       | Ok found ↦ elim found [
@@ -69,7 +72,8 @@ tokens_up_to reach zero text at end = Ok []
 tokens_up_to reach (suc most) text at end =
     tokens_by_next reach text end (tokens_up_to reach most text) (next text at)
 
--- the tokens of a text from a byte on, the token before them ending at a byte; or the fault that is met first
+-- the tokens of a text from a byte on, the token before them ending at a byte; or the fault that is
+-- met first
 unfoldable pub tokens_from : Reach → List ℕ → ℕ → Option ℕ → Result (List Lexed) LexFault
 tokens_from reach text at end = tokens_up_to reach (length text) text at end
 

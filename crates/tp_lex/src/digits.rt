@@ -28,7 +28,8 @@ fn with_digit(value: u64, base: u32, digit: u32) -> u64
         .saturating_add(u64::from(digit))
 }
 
-/// The value of as many digits as follow each other, as far as 64 bits hold it, and what follows them.
+/// The value of as many digits as follow each other, as far as 64 bits hold it, and what follows
+/// them.
 pub fn number(text: &str, base: u32) -> (u64, &str)
     requires low { 2 ≤ base }
     requires high { base ≤ 16 }

@@ -74,8 +74,8 @@ pub fn code_escape(text: &str, base: u32) -> Result<(Option<char>, &str), Fault>
     closed_code(code, rest)
 }
 
-/// From behind the backslash: the character that stands there, none for a backslash at a line's end, and what follows.
-/// Unfinished where the text ends in the escape.
+/// From behind the backslash: the character that stands there, none for a backslash at a line's
+/// end, and what follows. Unfinished where the text ends in the escape.
 #[tactic(auto, unfolding(crate::specs::Escapes::escape))]
 pub fn escape(text: &str) -> Result<(Option<char>, &str), Fault>
     ensures value { answer beside_chars result ≡ escape (chars text.now) }

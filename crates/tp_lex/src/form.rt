@@ -2,33 +2,20 @@
 
 ghost use Rattle.std.specs.Prelude.{◌≡◌, chars, IfOk};
 ghost use Rattle.std.specs.Str.{IsUtf8};
-ghost use Rattle.tp_lex.specs.Characters.{is_name_start, is_variable_start};
 ghost use Rattle.tp_lex.specs.Form.{ends_clause, form, graphic_form, integer_form, quotes_form, single, single_form};
 ghost use Rattle.tp_lex.specs.Integers.{integer};
 ghost use Rattle.tp_lex.specs.Quotes.{after_closing, inside};
 ghost use Rattle.tp_lex.specs.Seen.{answer, beside_chars};
 
-use crate::chars::{Class, after_run, is_graphic, is_layout, split_first};
+use crate::chars::{
+    Class, after_run, is_graphic, is_layout, is_name_start, is_variable_start, split_first,
+};
 use crate::integers::integer;
 use crate::quotes::after_inside;
 use crate::token::{Fault, TokenKind};
 
 /// The largest value of an integer: 2 to the 63rd.
 pub const LARGEST: u64 = 9_223_372_036_854_775_808;
-
-/// Whether a letter-digit name begins with the character.
-fn is_name_start(c: char) -> bool
-    ensures { result ≡ is_name_start c }
-{
-    unicode_ident::is_xid_start(c) && !c.is_ascii_uppercase()
-}
-
-/// Whether a variable begins with the character.
-fn is_variable_start(c: char) -> bool
-    ensures { result ≡ is_variable_start c }
-{
-    c == '_' || c.is_ascii_uppercase()
-}
 
 /// The kind of a character that is a token by itself.
 fn single(c: char) -> Option<TokenKind>
@@ -87,7 +74,8 @@ fn integer_form(text: &str) -> Result<(TokenKind, &str), Fault>
 
 /// A token between quotes, from behind the opening one.
 fn quotes_form(text: &str, mark: char, kind: TokenKind) -> Result<(TokenKind, &str), Fault>
-    ensures value { answer beside_chars result ≡ quotes_form kind (after_closing (inside mark (chars text.now))) }
+    ensures value { answer beside_chars result
+        ≡ quotes_form kind (after_closing (inside mark (chars text.now))) }
     ensures utf8 { IfOk result (λ p. IsUtf8 p.1.now) }
 {
     match after_inside(text, mark) {

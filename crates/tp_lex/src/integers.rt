@@ -13,7 +13,8 @@ use crate::escapes::escape;
 
 /// Behind `0''`: the quote must be doubled.
 fn doubled_quote(text: &str) -> Option<(u64, &str)>
-    ensures value { option_map beside_chars result ≡ option_map capped (doubled_quote (chars text.now)) }
+    ensures value { option_map beside_chars result
+        ≡ option_map capped (doubled_quote (chars text.now)) }
     ensures utf8 { IfSome result (λ p. IsUtf8 p.1.now) }
 {
     let (c, rest) = split_first(text)?;
@@ -26,7 +27,8 @@ fn doubled_quote(text: &str) -> Option<(u64, &str)>
 
 /// An escape that stands for a character, from behind the backslash.
 fn escaped_code(text: &str) -> Option<(u64, &str)>
-    ensures value { option_map beside_chars result ≡ option_map capped (escaped_code (escape (chars text.now))) }
+    ensures value { option_map beside_chars result
+        ≡ option_map capped (escaped_code (escape (chars text.now))) }
     ensures utf8 { IfSome result (λ p. IsUtf8 p.1.now) }
 {
     match escape(text) {
@@ -39,7 +41,8 @@ fn escaped_code(text: &str) -> Option<(u64, &str)>
 /// The code of a character, behind `0'`.
 #[tactic(auto, unfolding(crate::specs::Integers::character_code))]
 fn character_code(text: &str) -> Option<(u64, &str)>
-    ensures value { option_map beside_chars result ≡ option_map capped (character_code (chars text.now)) }
+    ensures value { option_map beside_chars result
+        ≡ option_map capped (character_code (chars text.now)) }
     ensures utf8 { IfSome result (λ p. IsUtf8 p.1.now) }
 {
     let (c, after) = split_first(text)?;
@@ -72,7 +75,8 @@ fn base_of(letter: char) -> Option<u32>
 fn based<'a>(from_letter: &'a str, text: &'a str, base: u32) -> (u64, &'a str)
     requires low { 2 ≤ base }
     requires high { base ≤ 16 }
-    ensures value { beside_chars result ≡ capped (based base (chars from_letter.now) (chars text.now)) }
+    ensures value { beside_chars result
+        ≡ capped (based base (chars from_letter.now) (chars text.now)) }
     ensures utf8 { IsUtf8 result.1.now }
 {
     if begins_with_digit(text, base) {
@@ -85,7 +89,8 @@ fn based<'a>(from_letter: &'a str, text: &'a str, base: u32) -> (u64, &'a str)
 /// Behind a zero.
 #[tactic(auto, unfolding(crate::specs::Integers::after_zero))]
 fn after_zero(text: &str) -> Option<(u64, &str)>
-    ensures value { option_map beside_chars result ≡ option_map capped (after_zero (chars text.now)) }
+    ensures value { option_map beside_chars result
+        ≡ option_map capped (after_zero (chars text.now)) }
     ensures utf8 { IfSome result (λ p. IsUtf8 p.1.now) }
 {
     let Some((c, after)) = split_first(text) else {
@@ -100,10 +105,12 @@ fn after_zero(text: &str) -> Option<(u64, &str)>
     }
 }
 
-/// The value as far as 64 bits hold it, from the first digit on, and what follows; none where it is no token.
+/// The value as far as 64 bits hold it, from the first digit on, and what follows; none where it is
+/// no token.
 #[tactic(auto, unfolding(crate::specs::Integers::integer))]
 pub fn integer(text: &str) -> Option<(u64, &str)>
-    ensures value { option_map beside_chars result ≡ option_map capped (integer (chars text.now)) }
+    ensures value { option_map beside_chars result
+        ≡ option_map capped (integer (chars text.now)) }
     ensures utf8 { IfSome result (λ p. IsUtf8 p.1.now) }
 {
     let (c, after) = split_first(text)?;

@@ -1,4 +1,4 @@
-//! The tokens of a text.
+//! The tokens of a text, and the classes of characters that tell them apart.
 #![tactic(auto)]
 
 mod chars;
@@ -14,6 +14,10 @@ mod quotes;
 mod tests;
 mod token;
 
+pub use chars::{
+    Class, are_in_class, is_graphic, is_in_class, is_layout, is_letter_digit, is_name_start,
+    is_variable_start, split_first,
+};
 pub use meaning::{integer_value, token_text};
 pub use next::next_token;
 pub use token::{LexFault, Token, TokenKind};

@@ -23,8 +23,8 @@ fn unquoted(alloc: Global, text: &str) -> Result<String, NoMemory>
     Ok(name)
 }
 
-/// The name of a Name or Variable token of the text, or the characters that the inside of a Quoted or Codes token
-/// stands for.
+/// The name of a Name or Variable token of the text, or the characters that the inside of a Quoted
+/// or Codes token stands for.
 ///
 /// # Errors
 /// `NoMemory` where memory was refused.

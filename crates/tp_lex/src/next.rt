@@ -20,13 +20,13 @@ fn fault_at(fault: Fault, byte: usize) -> LexFault
     }
 }
 
-/// The next token of the text from a byte on, behind layout and comments; none where nothing but these remains.
-/// Takes no memory. The tokens follow ISO/IEC 13211-1, 6.4.
+/// The next token of the text from a byte on, behind layout and comments; none where nothing but
+/// these remains. Takes no memory. The tokens follow ISO/IEC 13211-1, 6.4.
 ///
 /// # Errors
 /// `BadToken` where no token begins or the token is broken, `NumberRange` where an integer is above
-/// 9223372036854775808, and `Unfinished` where the text ends inside quotes or a comment, each with the byte at which
-/// the token or comment begins.
+/// 9223372036854775808, and `Unfinished` where the text ends inside quotes or a comment, each with
+/// the byte at which the token or comment begins.
 pub fn next_token(text: &str, at: usize) -> Result<Option<Token>, LexFault>
     requires { IsCharBoundary text.now at }
     ensures value { result ≡ next text.now at }

@@ -1,7 +1,8 @@
 //! The inside of quotes.
 
-ghost use Rattle.std.specs.Prelude.{◌≡◌, [], ◌∷◌, ◌++◌, chars, string_bytes, IfOk, IsOk, OnOk};
+ghost use Rattle.std.specs.Prelude.{◌≡◌, ◌++◌, chars, string_bytes, IfOk, IsOk, OnOk};
 ghost use Rattle.std.specs.Str.{IsUtf8};
+ghost use Rattle.tp_terms.specs.Added.{Adds};
 ghost use Rattle.tp_lex.specs.Escapes.{escape};
 ghost use Rattle.tp_lex.specs.Quotes.{after_closing, at_quote, escaped, inside, item, item_chars, stood_for};
 ghost use Rattle.tp_lex.specs.Seen.{answer, beside_chars, text_chars};
@@ -9,7 +10,7 @@ ghost use Rattle.tp_lex.specs.Seen.{answer, beside_chars, text_chars};
 use crate::chars::split_first;
 use crate::escapes::escape;
 use crate::token::Fault;
-use tp_terms::NoMemory;
+use tp_terms::{NoMemory, push_char};
 
 /// What stands next between quotes.
 #[derive(Clone, Copy, Debug, PartialEq, Eq)]
@@ -87,20 +88,12 @@ pub fn after_inside(text: &str, mark: char) -> Result<&str, Fault>
     }
 }
 
-/// Adds a character.
-fn push_char(out: &mut String, c: char) -> Result<(), NoMemory>
-    ensures { OnOk result (chars (string_bytes out.new) ≡ chars (string_bytes out.old) ++ c ∷ []) }
-{
-    out.push(c)?;
-    Ok(())
-}
-
 /// Adds the character that an item stands for, if it stands for one.
 fn push_item(out: &mut String, item: Item) -> Result<(), NoMemory>
-    ensures { OnOk result (chars (string_bytes out.new) ≡ chars (string_bytes out.old) ++ item_chars item) }
+    ensures { Adds out.old out.new result (item_chars item) }
 {
     match item {
-        Item::Stands(c) => push_char(out, c),
+        Item::Stands(c) => push_char(c, out),
         Item::Skipped | Item::Closed => Ok(()),
     }
 }
@@ -108,7 +101,8 @@ fn push_item(out: &mut String, item: Item) -> Result<(), NoMemory>
 /// Adds the characters that the inside stands for, from behind the opening quote on.
 pub fn push_inside(text: &str, mark: char, out: &mut String) -> Result<(), NoMemory>
     requires { IsOk (inside mark (chars text.now)) }
-    ensures { OnOk result (chars (string_bytes out.new) ≡ chars (string_bytes out.old) ++ stood_for (inside mark (chars text.now))) }
+    ensures { let added = stood_for (inside mark (chars text.now)) in
+        OnOk result (chars (string_bytes out.new) ≡ chars (string_bytes out.old) ++ added) }
 {
     let mut rest = text;
     'items: while let Ok((found, after)) = next_item(rest, mark) {

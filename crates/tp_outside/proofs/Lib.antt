@@ -1,5 +1,4 @@
-pub mod AddedLemmas
-pub mod CountLemmas
-pub mod MemoryLemmas
-pub mod SystemLemmas
-pub mod TextLemmas
+pub mod ReadsWhole
+pub mod WritesWhole
+pub mod InMemory
+pub mod Untold

@@ -31,8 +31,8 @@ ReadGives None name at n buffer = Unit {0}
 ReadGives (Some files) name at n buffer =
     MatchOption (held_under files name) ⊥ (λ bytes. ShowsBytes bytes at n buffer)
 
--- a read fails only where the count of faults rose or, where the files are told, the name isn't held;
--- the latter leaves the count
+-- a read fails only where the count of faults rose or, where the files are told, the name isn't
+-- held; the latter leaves the count
 abbrev pub ReadFails : Option Files → List ℕ → ℕ → ℕ → Type 0
 ReadFails None name before now = Rose before now
 ReadFails (Some files) name before now =

@@ -11,17 +11,36 @@ use std::io::{self, Print, Read, Seek, SeekFrom};
 use std::marker::Model;
 use std::rt::Files;
 
-/// The files that a runtime reaches. A name is a path. Each read opens the file, reads once at its
-/// place and closes it. Every error is a fault, also that a file isn't there or that memory is
-/// refused.
+/// A file as the last read left it.
 #[derive(Drop)]
-pub struct FileShelf<'a, R> {
+struct Opened<F> {
+    /// The name that it was opened for.
+    name: String,
+    file: F,
+    /// The number of the byte that the file's next read gives first.
+    next: u64,
+}
+
+impl<F> Opened<F> {
+    /// Whether a read of this name from this byte on goes on where the last one ended.
+    fn stands_at(&self, name: &str, at: u64) -> bool {
+        self.next == at && self.name.as_str() == name
+    }
+}
+
+/// The files that a runtime reaches. A name is a path. The file stays open from one piece to the
+/// next, so that a pipe can be read: a read that goes on where the last one ended reads on, and each
+/// other one opens the file anew. Every error is a fault, also that a file isn't there or that
+/// memory is refused, and then no file stays open.
+#[derive(Drop)]
+pub struct FileShelf<'a, R: Files> {
     rt: &'a R,
+    opened: Option<Opened<R::File>>,
     faults: u64,
     given: u64,
 }
 
-impl<'a, R> Model for FileShelf<'a, R> {
+impl<'a, R: Files> Model for FileShelf<'a, R> {
     ghost use Rattle.tp_outside.specs.System.{ReadCounts};
 
     ghost Value = { ReadCounts };
@@ -29,29 +48,59 @@ impl<'a, R> Model for FileShelf<'a, R> {
     ghost view = { λ s. record { faults = s.faults; given = s.given } };
 }
 
-impl<'a, R> FileShelf<'a, R> {
+impl<'a, R: Files> FileShelf<'a, R> {
     /// A shelf whose counts are 0.
     pub fn new(rt: &'a R) -> FileShelf<'a, R>
         ensures { result ≡ record { faults = 0; given = 0 } }
     {
         FileShelf {
             rt,
+            opened: None,
             faults: 0,
             given: 0,
         }
     }
 }
 
-/// Reads some bytes of a file from a place on. The file is open only during the call.
-fn read_at<R: Files>(rt: &R, path: &str, at: u64, buf: &mut [u8]) -> io::Result<usize>
-    ensures { IfOk result (λ n. n ≤ length buf.new) }
-{
-    let mut file = fs::open(rt, path)?;
-    file.seek(SeekFrom::Start(at))?;
-    file.read(buf)
+impl<R: Files + AllocGlobal> FileShelf<'_, R> {
+    /// Reads some bytes of a file from a place on. The file stays open where nothing failed.
+    fn read_at(&mut self, name: &str, at: u64, buf: &mut [u8]) -> io::Result<usize>
+        ensures bound { IfOk result (λ n. n ≤ length buf.new) }
+        ensures counts { self.new ≡ self.old }
+    {
+        let mut opened = match self.opened.take() {
+            Some(opened) if opened.stands_at(name, at) => opened,
+            _ => open_at(self.rt, name, at)?,
+        };
+        let count = read_on(&mut opened, buf)?;
+        self.opened = Some(opened);
+        Ok(count)
+    }
 }
 
-impl<R: Files> Shelf for FileShelf<'_, R> {
+/// Opens a file at a place. One that has no places, as a pipe, is opened at its first byte alone.
+fn open_at<R: Files + AllocGlobal>(rt: &R, name: &str, at: u64) -> io::Result<Opened<R::File>> {
+    let mut file = fs::open(rt, name)?;
+    if at > 0 {
+        file.seek(SeekFrom::Start(at))?;
+    }
+    Ok(Opened {
+        name: String::from_str(rt.alloc(), name)?,
+        file,
+        next: at,
+    })
+}
+
+/// Reads some bytes of the file from its next one on.
+fn read_on<F: Read>(opened: &mut Opened<F>, buf: &mut [u8]) -> io::Result<usize>
+    ensures { IfOk result (λ n. n ≤ length buf.new) }
+{
+    let count = opened.file.read(buf)?;
+    opened.next = opened.next.saturating_add(count as u64);
+    Ok(count)
+}
+
+impl<R: Files + AllocGlobal> Shelf for FileShelf<'_, R> {
     ghost use Rattle.std.specs.Prelude.{None};
 
     ghost held = { λ _. None };
@@ -70,7 +119,7 @@ impl<R: Files> Shelf for FileShelf<'_, R> {
         ensures none_given { OnErr result (self.new.given ≡ self.old.given) }
         ensures exact { self.new ≡ after_read self.old result }
     {
-        match read_at(self.rt, name, at, buf) {
+        match self.read_at(name, at, buf) {
             Ok(count) => {
                 self.given = self.given.saturating_add(count as u64);
                 Ok(count)
@@ -83,7 +132,8 @@ impl<R: Files> Shelf for FileShelf<'_, R> {
     }
 }
 
-/// The standard output that a runtime reaches. Every error is a fault, and so is a write of 0 bytes.
+/// The standard output that a runtime reaches. Every error is a fault, and so is a write of 0
+/// bytes.
 #[derive(Drop)]
 pub struct OutSink<'a, R> {
     rt: &'a R,
@@ -114,8 +164,9 @@ impl<R: Print> Sink for OutSink<'_, R> {
 
     ghost faults = { λ s. s };
 
-    /// The host's `write_some` is one call of `write` on the descriptor, with no buffer between: the
-    /// bytes that this says were taken are out, and nothing is left to flush when the program ends.
+    /// The host's `write_some` is one call of `write` on the descriptor, with no buffer between:
+    /// the bytes that this says were taken are out, and nothing is left to flush when the program
+    /// ends.
     fn write(&mut self, piece: &[u8]) -> Result<usize, Failed>
         requires { 0 < length piece.now }
         ensures never_falls { self.old ≤ self.new }

@@ -8,180 +8,87 @@ use std::io::{self, ErrorKind, Print};
 use std::test::Fail;
 use std::{env, fs, process};
 
-/// A shelf that holds these bytes under `m`.
-fn shelf_of(
-    alloc: Global,
-    bytes: Vec<u8>,
-    piece: usize,
-    fails: Vec<u64>,
-) -> Result<MemShelf, AllocError>
+/// A shelf that holds these bytes under `m`, and `2` under `two`.
+fn shelf_of(alloc: Global, text: &[u8], piece: usize, fails: &[u64]) -> Result<MemShelf, AllocError>
     requires { 0 < piece }
 {
-    let name = String::from_str(alloc, "m")?;
-    let files = vec![in alloc; (name, bytes)]?;
-    Ok(MemShelf::new(files, piece, fails))
+    let m = (String::from_str(alloc, "m")?, text.to_vec(alloc)?);
+    let two = (String::from_str(alloc, "two")?, b"2".to_vec(alloc)?);
+    Ok(MemShelf::new(vec![in alloc; m, two]?, piece, fails.to_vec(alloc)?))
 }
 
-fn bytes_of(alloc: Global, text: &[u8]) -> Result<Vec<u8>, AllocError> {
-    Vec::from_slice(alloc, text)
-}
+/// The name, the most bytes of a piece, the number of the call that fails, and the text: none is a
+/// fault.
+const TEXTS: [(&str, usize, u64, Option<&[u8]>); 10] = [
+    ("m", 1, 0, Some(b"p(1). p(2).")),
+    ("m", 2, 0, Some(b"p(1). p(2).")),
+    ("m", 7, 0, Some(b"p(1). p(2).")),
+    ("m", 9, 4, Some(b"p(1). p(2).")),
+    ("two", 9, 0, Some(b"2")),
+    ("x", 9, 0, None),
+    ("x", 9, 1, None),
+    ("m", 9, 1, None),
+    ("m", 9, 3, None),
+    ("m", 1, 12, None),
+];
 
-#[test]
-fn reads_in_pieces(rt: HostRuntime) -> Result<(), Fail> {
-    let alloc = rt.alloc();
-    let mut shelf = shelf_of(alloc, bytes_of(alloc, b"abc")?, 2, Vec::new(alloc))?;
-    let mut buf = [0; 4];
-    assert_eq!(rt; shelf.read("m", 0, &mut buf), Ok(2));
-    assert!(rt; buf.as_slice().starts_with(b"ab"));
-    assert_eq!(rt; shelf.read("m", 2, &mut buf), Ok(1));
-    assert!(rt; buf.as_slice().starts_with(b"c"));
-    assert_eq!(rt; shelf.read("m", 3, &mut buf), Ok(0));
-    assert_eq!(rt; shelf.read("x", 0, &mut buf), Err(Failed));
-    assert_eq!(rt; shelf.faults(), 0);
-    Ok(())
-}
+/// The room, the most bytes of a piece, the number of the call that fails, and what of `hello` was
+/// taken.
+const WRITES: [(usize, usize, u64, &str); 5] = [
+    (100, 3, 2, "hel"),
+    (4, 3, 0, "hell"),
+    (100, 3, 3, "hello"),
+    (5, 1, 0, "hello"),
+    (0, 1, 0, ""),
+];
 
-#[test]
-fn fails_at_chosen_reads(rt: HostRuntime) -> Result<(), Fail> {
-    let alloc = rt.alloc();
-    let mut shelf = shelf_of(alloc, bytes_of(alloc, b"abc")?, 1, vec![in alloc; 2, 5]?)?;
-    let mut buf = [0; 1];
-    for (name, at, want, faults) in [
-        ("m", 0, Ok(1), 0),
-        ("m", 1, Err(Failed), 1),
-        ("m", 1, Ok(1), 1),
-        ("x", 0, Err(Failed), 1),
-        ("m", 2, Err(Failed), 2),
-        ("m", 2, Ok(1), 2),
-    ] {
-        assert_eq!(rt; shelf.read(name, at, &mut buf), want, "at {at} of {name}");
-        assert_eq!(rt; shelf.faults(), faults, "at {at} of {name}");
-    }
-    Ok(())
-}
-
-#[test]
-fn reads_a_whole_text(rt: HostRuntime) -> Result<(), Fail> {
-    let alloc = rt.alloc();
-    for piece in [1, 2, 7] {
-        assert!(rt; piece > 0);
-        let text = bytes_of(alloc, b"p(1). p(2).")?;
-        let mut shelf = shelf_of(alloc, text, piece, Vec::new(alloc))?;
-        let bytes = read_all(alloc, &mut shelf, "m")?;
-        assert_eq!(rt;
-            bytes.as_slice(),
-            b"p(1). p(2).".as_slice(),
-            "in pieces of {piece}"
-        );
-        assert!(rt; matches!(read_all(alloc, &mut shelf, "x"), Err(ReadError::Fault)));
-        assert_eq!(rt; shelf.faults(), 0);
-    }
-    Ok(())
-}
-
-#[test]
-fn reads_by_name(rt: HostRuntime) -> Result<(), Fail> {
-    let alloc = rt.alloc();
-    let one = (String::from_str(alloc, "one")?, bytes_of(alloc, b"1")?);
-    let two = (String::from_str(alloc, "two")?, bytes_of(alloc, b"2")?);
-    let mut shelf = MemShelf::new(vec![in alloc; one, two]?, 9, Vec::new(alloc));
-    assert_eq!(rt;
-        read_all(alloc, &mut shelf, "two")?.as_slice(),
-        b"2".as_slice()
-    );
-    assert_eq!(rt;
-        read_all(alloc, &mut shelf, "one")?.as_slice(),
-        b"1".as_slice()
-    );
-    Ok(())
-}
-
-#[test]
-fn a_fault_ends_the_reading(rt: HostRuntime) -> Result<(), Fail> {
-    let alloc = rt.alloc();
-    for call in 1..5 {
-        let fails = vec![in alloc; call]?;
-        let mut shelf = shelf_of(alloc, bytes_of(alloc, b"abc")?, 1, fails)?;
-        let outcome = read_all(alloc, &mut shelf, "m");
-        assert!(rt; matches!(outcome, Err(ReadError::Fault)), "at call {call}");
-        assert_eq!(rt; shelf.faults(), 1, "at call {call}");
-        assert_eq!(rt;
-            read_all(alloc, &mut shelf, "m")?.len(),
-            3,
-            "after call {call}"
-        );
-    }
-    Ok(())
-}
-
-#[test]
-fn reads_the_longest_text(rt: HostRuntime) -> Result<(), Fail> {
-    let alloc = rt.alloc();
-    let text = vec![in alloc; b' '; 16_777_216]?;
-    let mut shelf = shelf_of(alloc, text, usize::MAX, Vec::new(alloc))?;
-    let bytes = read_all(alloc, &mut shelf, "m")?;
-    assert_eq!(rt; bytes.len(), 16_777_216);
-    assert!(rt; bytes.iter().all(|byte| *byte == b' '));
-    Ok(())
-}
-
-#[test]
-fn refuses_a_longer_text(rt: HostRuntime) -> Result<(), Fail> {
-    let alloc = rt.alloc();
-    let text = vec![in alloc; b' '; 16_777_217]?;
-    let mut shelf = shelf_of(alloc, text, usize::MAX, Vec::new(alloc))?;
-    assert!(rt; matches!(read_all(alloc, &mut shelf, "m"), Err(ReadError::TooLong)));
-    assert_eq!(rt; shelf.faults(), 0);
-    Ok(())
-}
-
-#[test]
-fn writes_up_to_a_fault(rt: HostRuntime) -> Result<(), Fail> {
-    let alloc = rt.alloc();
-    for (room, piece, fails, want, taken, faults) in [
-        (100, 3, [2].as_slice(), Err(WriteFault), "hel", 1),
-        (4, 3, [].as_slice(), Err(WriteFault), "hell", 1),
-        (100, 3, [3].as_slice(), Ok(()), "hello", 0),
-        (5, 1, [].as_slice(), Ok(()), "hello", 0),
-        (0, 1, [].as_slice(), Err(WriteFault), "", 1),
-    ] {
-        assert!(rt; piece > 0);
-        let fails = Vec::from_slice(alloc, fails)?;
-        let Ok(mut sink) = MemSink::new(alloc, room, piece, fails) else {
-            return Err(Fail::from(AllocError));
+/// The first row of `TEXTS` that reads otherwise.
+fn other_text(alloc: Global) -> Result<Option<usize>, AllocError> {
+    for (at, (name, piece, failing, want)) in TEXTS.iter().enumerate() {
+        let mut shelf = shelf_of(alloc, b"p(1). p(2).", (*piece).max(1), &[*failing])?;
+        let as_wanted = match (read_all(alloc, &mut shelf, name), want) {
+            (Ok(bytes), Some(text)) => bytes.as_slice() == *text && shelf.faults() == 0,
+            (Err(ReadError::Fault), None) => shelf.faults() == u64::from(*name == "m"),
+            _ => false,
         };
-        assert_eq!(rt; write_all(&mut sink, b"hello"), want, "with room {room}");
-        assert_eq!(rt; sink.taken(), taken.as_bytes(), "with room {room}");
-        assert_eq!(rt; sink.faults(), faults, "with room {room}");
+        if !as_wanted {
+            return Ok(Some(at));
+        }
     }
-    Ok(())
+    Ok(None)
 }
 
-#[test]
-fn reads_a_file(rt: HostRuntime) -> Result<(), Fail> {
-    let alloc = rt.alloc();
-    let name = format!(in alloc; "tp_outside-{}", process::id(rt.process()))?;
-    let path = env::temp_dir(&rt)?.join(alloc, name.as_str())?;
-    let mut text = Vec::with_capacity(alloc, 40_000)?;
-    for place in 0..40_000u32 {
-        text.push((place % 251) as u8)?;
+/// The first row of `WRITES` that writes otherwise.
+fn other_write(alloc: Global) -> Result<Option<usize>, AllocError> {
+    for (at, (room, piece, failing, want)) in WRITES.iter().enumerate() {
+        let fails = vec![in alloc; *failing]?;
+        let Ok(mut sink) = MemSink::new(alloc, *room, (*piece).max(1), fails) else {
+            return Err(AllocError);
+        };
+        let is_whole = write_all(&mut sink, b"hello") == Ok(());
+        let faults = u64::from(!is_whole);
+        if is_whole != (*want == "hello")
+            || sink.taken() != want.as_bytes()
+            || sink.faults() != faults
+        {
+            return Ok(Some(at));
+        }
     }
-    fs::write(&rt, path.as_path(), text.as_slice())?;
+    Ok(None)
+}
 
-    let mut shelf = FileShelf::new(&rt);
-    let bytes = read_all(alloc, &mut shelf, path.as_str());
-    let mut buf = [0; 4];
-    let piece = shelf.read(path.as_str(), 39_998, &mut buf);
-    fs::remove_file(&rt, path.as_path())?;
-    assert!(rt; bytes?.as_slice() == text.as_slice());
-    assert_eq!(rt; piece, Ok(2));
-    assert!(rt; buf.as_slice().starts_with(&[89, 90]));
-
-    // The file is gone before the next read.
-    assert_eq!(rt; shelf.read(path.as_str(), 0, &mut buf), Err(Failed));
-    let gone = read_all(alloc, &mut shelf, path.as_str());
-    assert!(rt; matches!(gone, Err(ReadError::Fault)));
-    Ok(())
+/// What the longest text reads as, with so many bytes more: its length, or 0 where it is too long.
+fn long_text(alloc: Global, more: usize) -> Result<usize, AllocError> {
+    let mut text = vec![in alloc; b' '; LONGEST_TEXT]?;
+    for _ in 0..more {
+        text.push(b' ')?;
+    }
+    let mut shelf = shelf_of(alloc, text.as_slice(), usize::MAX, &[])?;
+    match read_all(alloc, &mut shelf, "m") {
+        Ok(bytes) => Ok(bytes.len()),
+        Err(ReadError::TooLong) => Ok(0),
+        Err(_) => Err(AllocError),
+    }
 }
 
 /// An output that takes no byte, or is closed.
@@ -213,13 +120,39 @@ impl Print for Outlet {
 }
 
 #[test]
-fn writes_to_an_output(rt: HostRuntime) {
+fn worked_rows(rt: HostRuntime) -> Result<(), Fail> {
+    let alloc = rt.alloc();
+    assert_eq!(rt; other_text(alloc)?, None);
+    assert_eq!(rt; long_text(alloc, 0)?, LONGEST_TEXT);
+    assert_eq!(rt; long_text(alloc, 1)?, 0);
+    assert_eq!(rt; other_write(alloc)?, None);
     assert_eq!(rt; write_all(&mut OutSink::new(&rt), b"hello\n"), Ok(()));
     for outlet in [Outlet::Full, Outlet::Closed] {
-        assert_eq!(rt; OutSink::new(&outlet).write(b"hello"), Err(Failed));
         assert_eq!(rt;
             write_all(&mut OutSink::new(&outlet), b"hello"),
             Err(WriteFault)
         );
     }
+
+    // A file of three pieces, read whole and then in its middle, and gone at the next read.
+    let name = format!(in alloc; "tp_outside-{}", process::id(rt.process()))?;
+    let path = env::temp_dir(&rt)?.join(alloc, name.as_str())?;
+    let mut text = vec![in alloc; b'a'; 39_998]?;
+    text.extend_from_slice(b"bc")?;
+    fs::write(&rt, path.as_path(), text.as_slice())?;
+    let mut shelf = FileShelf::new(&rt);
+    let whole = read_all(alloc, &mut shelf, path.as_str());
+    let mut buf = [0; 4];
+    let middle = shelf.read(path.as_str(), 39_998, &mut buf);
+    fs::remove_file(&rt, path.as_path())?;
+    assert!(rt; whole?.as_slice() == text.as_slice());
+    assert_eq!(rt; middle, Ok(2));
+    assert!(rt; buf.as_slice().starts_with(b"bc"));
+    assert!(rt;
+        matches!(
+            read_all(alloc, &mut shelf, path.as_str()),
+            Err(ReadError::Fault)
+        )
+    );
+    Ok(())
 }

@@ -35,8 +35,11 @@ pub enum ReadError {
 #[derive(Clone, Copy, Debug, PartialEq, Eq)]
 pub struct WriteFault;
 
-/// Reads all the bytes that are held under a name, at most [`LONGEST_TEXT`]. One byte more is
-/// `TooLong`, and no further byte is read. The first read that fails ends the call with `Fault`.
+/// Reads all the bytes that are held under a name, at most [`LONGEST_TEXT`].
+///
+/// # Errors
+/// `Fault` at the first read that fails. `TooLong` where one byte more was read, for which no
+/// memory is taken, and no further one is read. `NoMemory` where memory for the bytes was refused.
 pub fn read_all<S: Shelf>(alloc: Global, shelf: &mut S, name: &str) -> Result<Vec<u8>, ReadError>
     ensures held_stays { S.held shelf.new ≡ S.held shelf.old }
     ensures never_falls { S.faults shelf.old ≤ S.faults shelf.new }
@@ -56,32 +59,44 @@ pub fn read_all<S: Shelf>(alloc: Global, shelf: &mut S, name: &str) -> Result<Ve
 
     ensures fault { IsErrOf result ReadError.Fault →
         ReadFails (S.held shelf.old) name.now (S.faults shelf.old) (S.faults shelf.new) }
-
-    // Up to a fault at most a text's bytes were given, and never more than one further byte.
     ensures fault_given { IsErrOf result ReadError.Fault →
         S.given shelf.new ≤ S.given shelf.old + LONGEST_TEXT }
-    ensures no_further { S.given shelf.new ≤ S.given shelf.old + (LONGEST_TEXT + 1) }
+
+    // Want of memory comes only behind bytes that were given, of a held name, without a fault.
+    ensures no_memory { IsErrOf result ReadError.NoMemory →
+        HoldsMore (S.held shelf.old) name.now 0 }
+    ensures no_memory_no_fault { IsErrOf result ReadError.NoMemory →
+        S.faults shelf.new ≡ S.faults shelf.old }
+    ensures no_memory_behind { IsErrOf result ReadError.NoMemory →
+        Rose (S.given shelf.old) (S.given shelf.new) }
+    ensures no_memory_given { IsErrOf result ReadError.NoMemory →
+        S.given shelf.new ≤ S.given shelf.old + LONGEST_TEXT }
 
     // Where the name is held and no fault came, the answer is `Ok`, `TooLong` or `NoMemory`.
     ensures complete { HoldsName (S.held shelf.old) name.now →
         ¬ Rose (S.faults shelf.old) (S.faults shelf.new) → ¬ IsErrOf result ReadError.Fault }
+
+    // Never more than one byte above the longest text is read.
+    ensures no_further { S.given shelf.new ≤ S.given shelf.old + (LONGEST_TEXT + 1) }
 {
     let mut bytes = Vec::new(alloc);
     let mut buffer = [0; PIECE];
-    'pieces: while bytes.len() <= LONGEST_TEXT {
-        let room = PIECE.min(LONGEST_TEXT + 1 - bytes.len());
-        let piece = &mut buffer[..room];
+    'pieces: loop {
+        let left = LONGEST_TEXT - bytes.len();
+        let piece = &mut buffer[..PIECE.min(left + 1)];
         let Ok(count) = shelf.read(name, bytes.len() as u64, piece) else {
             return Err(ReadError::Fault);
         };
         if count == 0 {
             return Ok(bytes);
         }
+        if count > left {
+            return Err(ReadError::TooLong);
+        }
         if bytes.extend_from_slice(&piece[..count]).is_err() {
             return Err(ReadError::NoMemory);
         }
     }
-    Err(ReadError::TooLong)
 }
 
 /// Writes all the bytes. The first write that fails ends the call, and a prefix was taken.

@@ -1,17 +1,10 @@
-pub mod TokenLawLemmas
-pub mod GrammarLemmas
-pub mod SoundLawLemmas
-pub mod StopLemmas
-pub mod StopsLawLemmas
-pub mod PlaceLawLemmas
-pub mod OutcomeLawLemmas
-mod Examples
-pub mod OpsLemmas
-pub mod WordLemmas
-pub mod StepLemmas
-pub mod ReadLemmas
-pub mod LoopLemmas
-pub mod VariableLemmas
-pub mod BuildLemmas
-pub mod WholeLemmas
-pub mod TellLemmas
+-- every list of tokens has one reading or one stop
+pub mod OneReading
+-- the table of operators
+pub mod Operators
+-- the reader's functions read what the definition reads
+pub mod ReadsTerms
+-- the cells show the tree with its variables numbered
+pub mod Numbered
+-- what holds of every term that is read
+pub mod WhatIsRead

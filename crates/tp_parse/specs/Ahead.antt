@@ -79,8 +79,9 @@ is_atom_by ops kind.Name name opens = is_infix_alone ops name && not opens
 is_atom_by ops kind.Quoted name opens = is_infix_alone ops name && not opens
 is_atom_by ops k name opens = false
 
--- A name that is a prefix operator is an atom before these tokens: before a token that ends a term, and before an infix
--- operator that is no prefix operator and has no open parenthesis directly after it.
+-- A name that is a prefix operator is an atom before these tokens: before a token that ends a term,
+-- and before an infix operator that is no prefix operator and has no open parenthesis directly
+-- after it.
 unfoldable pub is_atom_before : Table → List Lexed → Bool
 is_atom_before ops [] = false
 is_atom_before ops (t ∷ ts) = is_atom_by ops t.kind t.name (opens_directly ts)

@@ -10,8 +10,10 @@ pub mod Texts
 pub mod Words
 pub mod Steps
 pub mod Gives
+pub mod Progress
 pub mod Making
 pub mod Whole
+pub mod NewNames
 pub mod Tells
 pub mod Grammar
 pub mod Stopping

@@ -26,20 +26,26 @@ upright (t ∷ made) more = upright made (first_of t more)
 
 -- the last cells, not added yet, show the trees with their variables numbered
 pub record IsMade (names : List Name) (m : Making) (made : List Tree) : Type 0 where
-  pub shown : all_numbered (upright made none) no_numbers ≡ (shown_row names m.cells.items m.made.items, m.variables)
+  pub shown :
+      all_numbered (upright made none) no_numbers
+      ≡ (shown_row names m.cells.items m.made.items, m.variables)
   pub counted : length m.made.items ≡ length made
   pub stands : AllBefore (length m.cells.items) m.made.items
   pub named : AreNamed (length names) m.cells.items
   pub last_named : AreNamed (length names) m.made.items
 
 -- the place shows the tree with its variables numbered
-pub record IsBuilt (names : List Name) (cells : List Cell) (root : ℕ) (numbers : Numbers) (tree : Tree) : Type 0 where
+pub record IsBuilt (names : List Name) (cells : List Cell) (root : ℕ) (numbers : Numbers)
+    (tree : Tree) : Type 0 where
   pub term : numbered tree no_numbers ≡ (shows names cells root, numbers)
   pub within : root < length cells
   pub named : AreNamed (length names) cells
 
 -- the last cells, so many, were added side by side, and a compound of them stands in their place
 pub record IsGathered (name : AtomId) (count : ℕ) (old new : Making) : Type 0 where
-  pub cells : new.cells.items ≡ old.cells.items ++ drop (length old.made.items - count) old.made.items
-  pub made : new.made.items ≡ take (length old.made.items - count) old.made.items ++ Comp name (record { at = length old.cells.items }) count ∷ []
+  pub cells :
+      new.cells.items ≡ old.cells.items ++ drop (length old.made.items - count) old.made.items
+  pub made :
+      new.made.items ≡ take (length old.made.items - count) old.made.items
+      ++ Comp name (record { at = length old.cells.items }) count ∷ []
   pub variables : new.variables ≡ old.variables

@@ -1,10 +1,12 @@
--- Variables by their numbers, in order of first occurrence from the left; each `_` has a number of its own.
+-- Variables by their numbers, in order of first occurrence from the left; each `_` has a number of
+-- its own.
 use Rattle.std.specs.Prelude.{ℕ, ◌+◌, List, [], ◌∷◌, ◌++◌, Option, Some, None, codes, if◌then◌else◌}
 use Rattle.tp_terms.specs.Term as term
 use Rattle.tp_terms.specs.Term.{Name, Term, Terms, names_eq}
 use Rattle.tp_parse.specs.Tree.{Tree, Variable, Integer, Atom, Compound, Trees, none, first_of}
 
--- the variables other than `_` with their numbers, in order of first occurrence, and the number of all variables
+-- the variables other than `_` with their numbers, in order of first occurrence, and the number of
+-- all variables
 pub record Numbers : Type 0 where
   pub named : List (List ℕ × ℕ)
   pub vars : ℕ
@@ -39,4 +41,7 @@ abbrev mutual
 
   pub all_numbered : Trees → Numbers → Terms × Numbers
   all_numbered none s = (term.NoMore, s)
-  all_numbered (first_of t ts) s = let r = numbered t s in let q = all_numbered ts r.1 in (term.More r.0 q.0, q.1)
+  all_numbered (first_of t ts) s =
+      let r = numbered t s in
+      let q = all_numbered ts r.1 in
+      (term.More r.0 q.0, q.1)

@@ -27,5 +27,5 @@ entries_of = map (λ e. (chars (string_bytes e.0), e.1))
 -- what adding an operator answers, with this table afterwards, where memory wasn't refused
 abbrev pub TellsAdd : {A : Type 0} → Table → Result A OpFault → Result Table OpFault → Type 0
 TellsAdd new (Ok done) r = r ≡ Ok new
-TellsAdd new (Err fault.NoMemory) r = Unit {0}
+TellsAdd new (Err fault.NoMemory) r = (t : Table) × (r ≡ Ok t)
 TellsAdd new (Err why) r = r ≡ Err why

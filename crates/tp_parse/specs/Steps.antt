@@ -1,4 +1,5 @@
--- Trees by the steps that make them: a step takes the trees that were made last, and leaves one in their place.
+-- Trees by the steps that make them: a step takes the trees that were made last, and leaves one in
+-- their place.
 use Rattle.std.specs.Prelude.{◌≡◌, ℕ, zero, suc, ◌<◌, ◌≤◌, IsTrue, Bool, true, false, if◌then◌else◌, List, [], ◌∷◌, length, drop, Option, Some, None, codes, pos}
 use Rattle.tp_terms.specs.Term.{Name}
 use Rattle.tp_lex.specs.Form.{has_name}
@@ -23,7 +24,8 @@ label_name text label.EmptyList = codes "[]"
 label_name text label.Braces = codes "{}"
 label_name text label.Comma = codes ","
 
--- the last trees in their order, so many, before those behind them; the last tree made stands first in the list
+-- the last trees in their order, so many, before those behind them; the last tree made stands first
+-- in the list
 abbrev pub row : ℕ → List Tree → Trees → Trees
 row zero made more = more
 row (suc n) [] more = more
@@ -34,7 +36,8 @@ abbrev pub act : List ℕ → Step → List Tree → List Tree
 act text (step.Variable token) made = Variable (token_name text token) ∷ made
 act text (step.Integer value) made = Integer value ∷ made
 act text (step.Atom name) made = Atom (label_name text name) ∷ made
-act text (step.Compound name count) made = Compound (label_name text name) (row count made none) ∷ drop count made
+act text (step.Compound name count) made =
+    Compound (label_name text name) (row count made none) ∷ drop count made
 
 -- the trees after these steps
 abbrev pub run : List ℕ → List Tree → List Step → List Tree
@@ -61,7 +64,8 @@ IsReady text n (step.Compound name count) = IsLabel text name × (0 < count) × 
 
 abbrev pub AreReady : List ℕ → List Tree → List Step → Type 0
 AreReady text made [] = Unit {0}
-AreReady text made (s ∷ steps) = IsReady text (length made) s × AreReady text (act text s made) steps
+AreReady text made (s ∷ steps) =
+    IsReady text (length made) s × AreReady text (act text s made) steps
 
 -- ---- the words of operators
 
@@ -125,9 +129,16 @@ abbrev pub operator_by : Option Op → Bool → Option Op
 operator_by op true = None
 operator_by op false = op
 
+-- behind an element, a token that ends the list or stands before its tail
+abbrev pub ends_list : TokenKind → Bool
+ends_list kind.CloseList = true
+ends_list kind.Bar = true
+ends_list k = false
+
 -- the operator that a name is, where it is no atom
 abbrev pub operator_of : Word → List Word → Option Op
-operator_of w ws = operator_by w.as_prefix (atom_before (first_word ws) (first_word (after_word ws)))
+operator_of w ws =
+    operator_by w.as_prefix (atom_before (first_word ws) (first_word (after_word ws)))
 
 -- the infix operator, where it is taken
 abbrev pub taken_of : ℕ → ℕ → Option (Label × Op) → Option (Label × Op)

@@ -1,4 +1,5 @@
--- Tables of operators: each name has at most one entry as a prefix operator and at most one as an infix operator.
+-- Tables of operators: each name has at most one entry as a prefix operator and at most one as an
+-- infix operator.
 use Rattle.std.specs.Prelude.{ℕ, ◌-◌, Bool, true, false, nat_eq, ◌||◌, List, [], ◌∷◌, fold, Option, Some, None, Result, Ok, Err, ℤ, pos, negsuc, int_lt, codes, if◌then◌else◌}
 use Rattle.tp_terms.specs.Term.{Name, names_eq}
 use Rattle.tp_parse.specs.declared.table.OpType.{OpType}
@@ -11,8 +12,8 @@ use Prim.Native.String.{String}
 abbrev pub Op : Type 0
 Op = ℕ × OpType
 
--- The largest priority of an operand: the operator's minus 1 for an x, and the operator's for a y. A prefix operator
--- has no left operand.
+-- The largest priority of an operand: the operator's minus 1 for an x, and the operator's for a y.
+-- A prefix operator has no left operand.
 abbrev pub left_by : OpType → ℕ → ℕ
 left_by Xfx p = p - 1
 left_by Xfy p = p - 1
@@ -70,16 +71,21 @@ type_of n =
 
 -- the names that no operator may have
 abbrev pub is_kept_name : Name → Bool
-is_kept_name n = (names_eq n (codes ",") || names_eq n (codes "|")) || (names_eq n (codes "[]") || names_eq n (codes "{}"))
+is_kept_name n =
+    (names_eq n (codes ",") || names_eq n (codes "|"))
+    || (names_eq n (codes "[]") || names_eq n (codes "{}"))
 
 abbrev pub add_typed : ℕ → Option OpType → Name → Table → Result Table OpFault
 add_typed p None name t = Err fault.Kind
-add_typed p (Some kind) name t = if is_kept_name name then Err fault.Name else Ok (with_op p kind name t)
+add_typed p (Some kind) name t =
+    if is_kept_name name then Err fault.Name else Ok (with_op p kind name t)
 
--- the table with an operator added, or the first of the checks that refuses it: priority, type, name
+-- the table with an operator added, or the first of the checks that refuses it: priority, type,
+-- name
 abbrev pub add_op : ℤ → Name → Name → Table → Result Table OpFault
 add_op (negsuc n) kind name t = Err fault.Priority
-add_op (pos p) kind name t = if int_lt (pos 1200) (pos p) then Err fault.Priority else add_typed p (type_of kind) name t
+add_op (pos p) kind name t =
+    if int_lt (pos 1200) (pos p) then Err fault.Priority else add_typed p (type_of kind) name t
 
 -- ---- the table at the start
 
@@ -100,7 +106,8 @@ start_rows =
     ∷ row 1050 Xfy ("->" ∷ [])
     ∷ row 1000 Xfy ("," ∷ [])
     ∷ row 900 Fy ("\\+" ∷ [])
-    ∷ row 700 Xfx ("=" ∷ "\\=" ∷ "==" ∷ "\\==" ∷ "@<" ∷ "@=<" ∷ "@>" ∷ "@>=" ∷ "=.." ∷ "is" ∷ "=:=" ∷ "=\\=" ∷ "<" ∷ "=<" ∷ ">" ∷ ">=" ∷ [])
+    ∷ row 700 Xfx ("=" ∷ "\\=" ∷ "==" ∷ "\\==" ∷ "@<" ∷ "@=<" ∷ "@>" ∷ "@>=" ∷ "=.." ∷ "is" ∷ "=:="
+    ∷ "=\\=" ∷ "<" ∷ "=<" ∷ ">" ∷ ">=" ∷ [])
     ∷ row 500 Yfx ("+" ∷ "-" ∷ "/\\" ∷ "\\/" ∷ [])
     ∷ row 400 Yfx ("*" ∷ "/" ∷ "//" ∷ "rem" ∷ "mod" ∷ "div" ∷ "<<" ∷ ">>" ∷ [])
     ∷ row 200 Xfx ("**" ∷ [])

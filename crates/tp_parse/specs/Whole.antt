@@ -39,7 +39,8 @@ pub record IsWhole (text : List ℕ) (steps : List Step) (r : Read Tree) : Type 
   pub made : trees_of text steps ≡ tree ∷ []
   pub ready : AreReady text [] steps
 
-abbrev pub GivesWhole : {A : Type 0} → List ℕ → List Step → List Lexed → Result A Stop → Read Tree → Type 0
+abbrev pub GivesWhole : {A : Type 0} → List ℕ → List Step → List Lexed → Result A Stop → Read Tree →
+    Type 0
 GivesWhole text steps left (Ok done) r = IsWhole text steps r
 GivesWhole text steps left (Err stop) r = Fails left stop r
 
@@ -49,7 +50,8 @@ pub record IsRefused (end byte : ℕ) (why : ReadCause) (r : Read Tree) : Type 0
   pub stops : r ≡ Err stop
   pub is : refused end stop ≡ (byte, why)
 
-abbrev pub TellsSteps : {X : Type 0} → (X → List Step) → List ℕ → Result X ReadFault → Read Tree → Type 0
+abbrev pub TellsSteps : {X : Type 0} → (X → List Step) → List ℕ → Result X ReadFault → Read Tree →
+    Type 0
 TellsSteps view text (Ok steps) r = IsWhole text (view steps) r
 TellsSteps view text (Err (Refused byte why)) r = IsRefused (length text) byte why r
 TellsSteps view text (Err NoMemory) r = Unit {0}
@@ -63,12 +65,14 @@ abbrev pub found_at : ℕ → List Lexed → Tree → Found
 found_at end ts tree = found_by (byte_at end ts) (to_of end ts) (numbered tree no_numbers)
 
 -- what reading words answers, where memory wasn't refused
-pub record IsTerm (names : List Name) (end : ℕ) (ts : List Lexed) (t : ReadTerm) (r : Read Tree) : Type 0 where
+pub record IsTerm (names : List Name) (end : ℕ) (ts : List Lexed) (t : ReadTerm)
+    (r : Read Tree) : Type 0 where
   pub tree : Tree
   pub read : r ≡ Ok tree
   pub tells : Tells names t (found_at end ts tree)
 
-abbrev pub TellsWhole : List Name → List ℕ → List Lexed → Result ReadTerm ReadFault → Read Tree → Type 0
+abbrev pub TellsWhole : List Name → List ℕ → List Lexed → Result ReadTerm ReadFault → Read Tree →
+    Type 0
 TellsWhole names text ts (Ok t) r = IsTerm names (length text) ts t r
 TellsWhole names text ts (Err (Refused byte why)) r = IsRefused (length text) byte why r
 TellsWhole names text ts (Err NoMemory) r = Unit {0}

@@ -56,17 +56,22 @@ reach_of Clause = ToEnd
 reach_of Whole = ToTextEnd
 
 -- what taking the words of a text answers, where memory wasn't refused
-abbrev pub TellsWords : {X : Type 0} → (X → List Word) → List ℕ → Result X ReadFault → Result (List Lexed) LexFault → Type 0
+abbrev pub TellsWords : {X : Type 0} → (X → List Word) → List ℕ → Result X ReadFault →
+    Result (List Lexed) LexFault → Type 0
 TellsWords view text (Ok words) r = r ≡ Ok (ahead text (view words))
-TellsWords view text (Err (Refused byte cause)) r = (fault : LexFault) × (r ≡ Err fault) × (refused_token fault ≡ (byte, cause))
+TellsWords view text (Err (Refused byte cause)) r =
+    (fault : LexFault) × (r ≡ Err fault) × (refused_token fault ≡ (byte, cause))
 TellsWords view text (Err NoMemory) r = Unit {0}
 
 -- what the next word says of the tokens of a text
-abbrev pub TellsNext : Reach → List ℕ → (ℕ → Option ℕ → Result (List Lexed) LexFault) → Result (Option Word) ReadFault → Result (List Lexed) LexFault → Type 0
+abbrev pub TellsNext : Reach → List ℕ → (ℕ → Option ℕ → Result (List Lexed) LexFault) →
+    Result (Option Word) ReadFault → Result (List Lexed) LexFault → Type 0
 TellsNext reach text behind (Ok None) r = r ≡ Ok []
 TellsNext reach text behind (Ok (Some w)) r =
-    r ≡ (if stops_at reach w.token.kind then Ok (lexed_of text w ∷ []) else with_token (lexed_of text w) (behind w.token.to (Some w.token.to)))
-TellsNext reach text behind (Err (Refused byte cause)) r = (fault : LexFault) × (r ≡ Err fault) × (refused_token fault ≡ (byte, cause))
+    r ≡ (if stops_at reach w.token.kind then Ok (lexed_of text w ∷ [])
+    else with_token (lexed_of text w) (behind w.token.to (Some w.token.to)))
+TellsNext reach text behind (Err (Refused byte cause)) r =
+    (fault : LexFault) × (r ≡ Err fault) × (refused_token fault ≡ (byte, cause))
 TellsNext reach text behind (Err NoMemory) r = Unit {0}
 
 -- ---- the words ahead

@@ -1,11 +1,12 @@
 //! The cells of a term, from the steps that make it.
 
 ghost use Rattle.std.specs.Prelude.{◌≡◌, ◌+◌, ◌<◌, ◌≤◌, ◌^◌, ℕ, List, [], ◌∷◌, ◌++◌, length, take, drop, slice_get, chars, Some, IfOk, OnOk};
-ghost use Rattle.tp_terms.specs.Names.{Grows};
+ghost use Rattle.tp_terms.specs.Names.{Grows, with_name};
 ghost use Rattle.tp_terms.specs.Term.{Name};
 ghost use Rattle.tp_terms.specs.Shown.{AreNamed};
 ghost use Rattle.tp_lex.specs.Next.{token_name};
 ghost use Rattle.tp_parse.specs.Making.{AllBefore, IsBuilt, IsGathered, IsMade};
+ghost use Rattle.tp_parse.specs.NewNames.{AddsOnly, writes_any};
 ghost use Rattle.tp_parse.specs.Steps.{AreReady, HasName, IsLabel, IsReady, act, label_name, trees_of};
 ghost use Rattle.tp_parse.specs.Tree.{Tree};
 
@@ -35,7 +36,9 @@ fn intern_token(
     atoms: &mut Atoms,
 ) -> Result<AtomId, NoMemory>
     requires { HasName text.now token }
-    ensures place { IfOk result (λ atom. slice_get atoms.new atom.at ≡ Some (token_name text.now token)) }
+    ensures place { IfOk result (λ atom.
+        slice_get atoms.new atom.at ≡ Some (token_name text.now token)) }
+    ensures names { OnOk result (atoms.new ≡ with_name atoms.old (token_name text.now token)) }
     ensures grows { Grows atoms.old atoms.new }
 {
     match token.kind {
@@ -50,7 +53,9 @@ fn intern_token(
 /// The atom of a name.
 fn intern(alloc: Global, text: &str, label: Label, atoms: &mut Atoms) -> Result<AtomId, NoMemory>
     requires { IsLabel text.now label }
-    ensures place { IfOk result (λ atom. slice_get atoms.new atom.at ≡ Some (label_name text.now label)) }
+    ensures place { IfOk result (λ atom.
+        slice_get atoms.new atom.at ≡ Some (label_name text.now label)) }
+    ensures names { OnOk result (atoms.new ≡ with_name atoms.old (label_name text.now label)) }
     ensures grows { Grows atoms.old atoms.new }
 {
     match label {
@@ -101,7 +106,10 @@ fn take_step(
     requires ready { IsReady text.now (length making.old.made.items) step }
     requires stands { AllBefore (length making.old.cells.items) making.old.made.items }
     requires room { making.old.variables.vars + 1 < 2 ^ 64 }
-    ensures made { OnOk result ((trees : List Tree) → IsMade atoms.old making.old trees → IsMade atoms.new making.new (act text.now step trees)) }
+    ensures made { OnOk result ((trees : List Tree) → IsMade atoms.old making.old trees →
+        IsMade atoms.new making.new (act text.now step trees)) }
+    ensures names { OnOk result ((trees : List Tree) →
+        AddsOnly (λ name. writes_any name (act text.now step trees)) atoms.old atoms.new) }
     ensures room { OnOk result (making.new.variables.vars ≤ making.old.variables.vars + 1) }
     ensures grows { Grows atoms.old atoms.new }
 {
@@ -132,7 +140,10 @@ pub fn build(
 ) -> Result<(Cells, Ref, Variables), NoMemory>
     requires ready { AreReady text.now [] steps.now }
     requires some { 0 < length (trees_of text.now steps.now) }
-    ensures built { IfOk result (λ b. (tree : Tree) → trees_of text.now steps.now ≡ tree ∷ [] → IsBuilt atoms.new b.0.items b.1.at b.2 tree) }
+    ensures built { IfOk result (λ b. (tree : Tree) → trees_of text.now steps.now ≡ tree ∷ [] →
+        IsBuilt atoms.new b.0.items b.1.at b.2 tree) }
+    ensures names { OnOk result
+        (AddsOnly (λ name. writes_any name (trees_of text.now steps.now)) atoms.old atoms.new) }
     ensures grows { Grows atoms.old atoms.new }
 {
     let mut making = Making {

@@ -1,6 +1,6 @@
 //! The words that are left.
 
-ghost use Rattle.std.specs.Prelude.{◌≡◌, ◌<◌, ◌≤◌, ℕ, List, Some, length, OnErr, OnOk};
+ghost use Rattle.std.specs.Prelude.{◌≡◌, ◌<◌, ◌≤◌, ℕ, List, Some, length, IfErr, OnErr, OnOk};
 ghost use Rattle.tp_parse.specs.Gives.{GivesBehind};
 ghost use Rattle.tp_parse.specs.Reading.{behind, closes_by};
 ghost use Rattle.tp_parse.specs.Steps.{infix_word, label_by, labelled};
@@ -116,8 +116,10 @@ impl<'a> Cursor<'a> {
     /// Passes the closing token that must stand there.
     #[tactic(auto, unfolding(crate::specs::Reading::behind))]
     pub fn pass_closing(&mut self, closing: TokenKind) -> Result<(), Stop>
-        ensures behind { (text : List ℕ) → GivesBehind (ahead text self.new) result (behind closing (ahead text self.old)) }
+        ensures behind { (text : List ℕ) →
+            GivesBehind (ahead text self.new) result (behind closing (ahead text self.old)) }
         ensures ok { OnOk result (self.new ≡ after_word self.old) }
+        ensures memory { IfErr result (λ stop. ¬ (stop ≡ Stop.NoMemory)) }
         ensures err { OnErr result (self.new ≡ self.old) }
         ensures shorter { OnOk result (length self.new < length self.old) }
     {

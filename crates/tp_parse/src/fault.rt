@@ -1,6 +1,7 @@
 //! Why a text is refused.
 
 use std::alloc::{AllocError, AllocFailed};
+use tp_lex::LexFault;
 use tp_terms::NoMemory;
 
 /// Why a clause or a goal has no reading.
@@ -32,6 +33,23 @@ pub enum ReadFault {
     },
     /// Memory was refused.
     NoMemory,
+}
+
+impl From<LexFault> for ReadFault {
+    ghost use Rattle.std.specs.Prelude.{◌≡◌};
+    ghost use Rattle.tp_parse.specs.Texts.{refused_token};
+    ghost use Rattle.tp_parse.specs.declared.fault.ReadFault.TheVariants.{Refused};
+
+    ghost from_gives = { λ fault e. let r = refused_token fault in e ≡ Refused r.0 r.1 };
+
+    fn from(fault: LexFault) -> Self {
+        let (byte, cause) = match fault {
+            LexFault::BadToken(byte) => (byte, ReadCause::Token),
+            LexFault::NumberRange(byte) => (byte, ReadCause::Number),
+            LexFault::Unfinished(byte) => (byte, ReadCause::Unfinished),
+        };
+        ReadFault::Refused { byte, cause }
+    }
 }
 
 impl From<NoMemory> for ReadFault {

@@ -1,17 +1,17 @@
 //! Parts of terms that have no terms in them, and the links of lists.
 
-ghost use Rattle.std.specs.Prelude.{◌≡◌, ◌+◌, ◌-◌, ◌<◌, ◌≤◌, ◌^◌, ◌∷◌, ◌++◌, nat_lt, ℕ, List, [], map, Some, chars, string_bytes, length, IfOk, IfErr, IsTrue, OnOk, negsuc, pos};
+ghost use Rattle.std.specs.Prelude.{◌≡◌, ◌+◌, ◌-◌, ◌<◌, ◌≤◌, ◌^◌, ◌∷◌, ◌++◌, nat_lt, ℕ, List, [], map, Err, Some, chars, string_bytes, length, IfOk, IfErr, IsTrue, OnOk, negsuc, pos};
 ghost use Rattle.tp_lex.specs.Form.{has_name};
 ghost use Rattle.tp_lex.specs.Next.{IsTokenOf, token_name, token_value};
 ghost use Rattle.tp_parse.specs.Ahead.{is_minus};
-ghost use Rattle.tp_parse.specs.Gives.{GivesTerm, IsGoing, simple};
-ghost use Rattle.tp_parse.specs.Ops.{table_of};
+ghost use Rattle.tp_parse.specs.Gives.{begins_leaf, simple};
+ghost use Rattle.tp_parse.specs.Progress.{IsUnderway, ReadsTerm, token_of};
 ghost use Rattle.tp_parse.specs.Steps.{AreReady, linked, onto_codes, trees_of};
 ghost use Rattle.tp_parse.specs.Tree.{Integer, Tree, integers, minus};
 ghost use Rattle.tp_parse.specs.Words.{after_word, ahead, first_word, lexed_of};
 
-use crate::cursor::Cursor;
 use crate::fault::ReadCause;
+use crate::progress::Progress;
 use crate::steps::{Label, Step};
 use crate::stop::Stop;
 use crate::words::{Source, Word, plain_name};
@@ -49,7 +49,8 @@ pub fn link(steps: &mut Vec<Step>, count: usize, source: &Source<'_>) -> Result<
     requires ready { AreReady source.now.text.now [] steps.old.items }
     requires enough { count < length (trees_of source.now.text.now steps.old.items) }
     ensures ready { AreReady source.now.text.now [] steps.new.items }
-    ensures trees { OnOk result (trees_of source.now.text.now steps.new.items ≡ linked count (trees_of source.now.text.now steps.old.items)) }
+    ensures trees { let text = source.now.text.now in
+        OnOk result (trees_of text steps.new.items ≡ linked count (trees_of text steps.old.items)) }
     ensures memory { IfErr result (λ stop. stop ≡ Stop.NoMemory) }
 {
     'links: for _ in 0..count {
@@ -62,7 +63,8 @@ pub fn link(steps: &mut Vec<Step>, count: usize, source: &Source<'_>) -> Result<
 fn push_codes(steps: &mut Vec<Step>, name: &[char], source: &Source<'_>) -> Result<(), Stop>
     requires ready { AreReady source.now.text.now [] steps.old.items }
     ensures ready { AreReady source.now.text.now [] steps.new.items }
-    ensures trees { OnOk result (trees_of source.now.text.now steps.new.items ≡ onto_codes name.now (trees_of source.now.text.now steps.old.items)) }
+    ensures trees { let text = source.now.text.now in OnOk result
+        (trees_of text steps.new.items ≡ onto_codes name.now (trees_of text steps.old.items)) }
     ensures memory { IfErr result (λ stop. stop ≡ Stop.NoMemory) }
 {
     for character in name {
@@ -103,7 +105,8 @@ fn push_list(steps: &mut Vec<Step>, token: Token, source: &Source<'_>) -> Result
     requires given { IsTokenOf source.now.text.now token }
     requires named { IsTrue (has_name token.kind) }
     ensures ready { AreReady source.now.text.now [] steps.new.items }
-    ensures trees { OnOk result (trees_of source.now.text.now steps.new.items ≡ integers (token_name source.now.text.now token) ∷ trees_of source.now.text.now steps.old.items) }
+    ensures trees { let text = source.now.text.now in OnOk result (trees_of text steps.new.items
+        ≡ integers (token_name text token) ∷ trees_of text steps.old.items) }
     ensures memory { IfErr result (λ stop. stop ≡ Stop.NoMemory) }
 {
     let text = token_text(source.alloc, source.text, &token)?;
@@ -115,18 +118,17 @@ fn push_list(steps: &mut Vec<Step>, token: Token, source: &Source<'_>) -> Result
 }
 
 /// A first part of a term that has no terms in it.
-pub fn read_simple(
-    source: &Source<'_>,
-    cursor: &mut Cursor<'_>,
-    steps: &mut Vec<Step>,
-    word: Word,
-) -> Result<u16, Stop>
-    requires going { IsGoing (table_of source.now.ops.now) source.now.text.now cursor.old steps.old.items }
-    requires first { first_word cursor.old ≡ Some word }
-    ensures gives { let text = source.now.text.now in GivesTerm (trees_of text steps.old.items) (trees_of text steps.new.items) (ahead text cursor.new) result
-        (simple (lexed_of text word) (ahead text (after_word cursor.old)) word.token.kind) }
-    ensures going { IsGoing (table_of source.now.ops.now) source.now.text.now cursor.new steps.new.items }
-    ensures shorter { OnOk result (length cursor.new < length cursor.old) }
+pub fn read_simple(source: &Source<'_>, at: &mut Progress<'_>, word: Word) -> Result<u16, Stop>
+    requires going { IsUnderway source.now at.old }
+    requires first { first_word at.old.cursor ≡ Some word }
+    ensures gives { ReadsTerm source.now at.old at.new result
+        (simple (token_of source.now word) (ahead source.now.text.now (after_word at.old.cursor))
+        word.token.kind) }
+    ensures memory { result ≡ Err Stop.NoMemory → IsTrue (begins_leaf word.token.kind) }
+    ensures number { result ≡ Err Stop.NoMemory → word.token.kind ≡ TokenKind.Integer →
+        (token_of source.now word).value < 2 ^ 63 }
+    ensures going { IsUnderway source.now at.new }
+    ensures shorter { OnOk result (length at.new.cursor < length at.old.cursor) }
 {
     match word.token.kind {
         TokenKind::Integer => {
@@ -134,18 +136,18 @@ pub fn read_simple(
             if value >= INTEGERS_END {
                 return Err(Stop::At(ReadCause::Number));
             }
-            cursor.pass();
-            steps.push(Step::Integer(signed(value)))?;
+            at.cursor.pass();
+            at.steps.push(Step::Integer(signed(value)))?;
             Ok(0)
         }
         TokenKind::Variable => {
-            cursor.pass();
-            steps.push(Step::Variable(word.token))?;
+            at.cursor.pass();
+            at.steps.push(Step::Variable(word.token))?;
             Ok(0)
         }
         TokenKind::Codes => {
-            cursor.pass();
-            push_list(steps, word.token, source)?;
+            at.cursor.pass();
+            push_list(&mut at.steps, word.token, source)?;
             Ok(0)
         }
         _ => Err(Stop::At(ReadCause::Syntax)),

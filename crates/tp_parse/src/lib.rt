@@ -6,6 +6,7 @@ mod cursor;
 mod fault;
 pub mod laws;
 mod leaves;
+mod progress;
 mod read;
 mod reader;
 mod steps;
@@ -19,4 +20,4 @@ mod words;
 
 pub use fault::{ReadCause, ReadFault};
 pub use read::{ReadTerm, read_clause, read_goal};
-pub use table::{Op, OpFault, OpType, Ops};
+pub use table::{Op, OpFault, OpType, Ops, left_bound, right_bound};

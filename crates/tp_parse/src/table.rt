@@ -2,7 +2,7 @@
 
 ghost use Rattle.std.specs.Prelude.{◌≡◌, ℕ, ◌≤◌, List, map, fold, drop, chars, codes, IsTrue, IfOk, OnErr, OnOk, if◌then◌else◌};
 ghost use Rattle.tp_terms.specs.Term.{Name};
-ghost use Rattle.tp_parse.specs.Table.{add_op, changed, empty_table, entry_of, is_kept_name, is_prefix, start_table, type_of, with_op};
+ghost use Rattle.tp_parse.specs.Table.{add_op, changed, empty_table, entry_of, is_kept_name, is_prefix, left_bound, right_bound, start_table, type_of, with_op};
 ghost use Rattle.tp_parse.specs.Ops.{TellsAdd, entries_of, found_in, table_of};
 ghost use Rattle.tp_parse.specs.Start.{with_operators};
 
@@ -53,6 +53,27 @@ impl From<NoMemory> for OpFault {
 /// An operator's priority, from 1 to 1200, and its type.
 pub type Op = (u16, OpType);
 
+/// The largest priority of an operator's left operand; a prefix operator has none.
+pub fn left_bound(op: Op) -> u16
+    ensures { result ≡ left_bound op }
+{
+    match op.1 {
+        OpType::Xfx | OpType::Xfy => op.0.saturating_sub(1),
+        OpType::Yfx => op.0,
+        OpType::Fy | OpType::Fx => 0,
+    }
+}
+
+/// The largest priority of an operator's right operand.
+pub fn right_bound(op: Op) -> u16
+    ensures { result ≡ right_bound op }
+{
+    match op.1 {
+        OpType::Xfx | OpType::Yfx | OpType::Fx => op.0.saturating_sub(1),
+        OpType::Xfy | OpType::Fy => op.0,
+    }
+}
+
 /// The operators at the start, in the order of their priorities.
 const START_OPERATORS: [(u16, OpType, &str); 40] = [
     (1200, OpType::Xfx, ":-"),
@@ -97,7 +118,8 @@ const START_OPERATORS: [(u16, OpType, &str); 40] = [
     (200, OpType::Fy, "\\"),
 ];
 
-/// The operators: each name has at most one entry as a prefix operator and at most one as an infix operator.
+/// The operators: each name has at most one entry as a prefix operator and at most one as an infix
+/// operator.
 #[derive(Drop)]
 pub struct Ops {
     prefixes: IndexMap<String, Option<Op>>,
@@ -109,7 +131,10 @@ impl Model for Ops {
 
     ghost Value = { Entries };
 
-    ghost view = { λ o. record { prefixes = entries_of o.prefixes.entries; infixes = entries_of o.infixes.entries } };
+    ghost view = { λ o. record {
+      prefixes = entries_of o.prefixes.entries;
+      infixes = entries_of o.infixes.entries;
+    } };
 }
 
 impl Ops {
@@ -134,15 +159,17 @@ impl Ops {
         }
     }
 
-    /// Adds an operator (ISO/IEC 13211-1, clause 8.14.3). It takes the place of the name's entry in its class, and
-    /// priority 0 takes that entry out.
+    /// Adds an operator (ISO/IEC 13211-1, clause 8.14.3). It takes the place of the name's entry in
+    /// its class, and priority 0 takes that entry out.
     ///
     /// # Errors
-    /// The first of these that holds: `Priority` where the priority isn't from 0 to 1200, `Kind` where the type is none
-    /// of `xfx`, `xfy`, `yfx`, `fy` and `fx`, `Name` where the name is `,`, `|`, `[]` or `{}`; and `NoMemory` where
-    /// memory was refused. The table is then as before.
+    /// The first of these that holds: `Priority` where the priority isn't from 0 to 1200, `Kind`
+    /// where the type is none of `xfx`, `xfy`, `yfx`, `fy` and `fx`, `Name` where the name is `,`,
+    /// `|`, `[]` or `{}`; and `NoMemory` where memory was refused, which comes only where none of
+    /// those holds. The table is then as before.
     pub fn add(&mut self, priority: i64, kind: &str, name: &str) -> Result<(), OpFault>
-        ensures value { TellsAdd (table_of self.new) result (add_op priority (chars kind.now) (chars name.now) (table_of self.old)) }
+        ensures value { TellsAdd (table_of self.new) result
+            (add_op priority (chars kind.now) (chars name.now) (table_of self.old)) }
         ensures err { OnErr result (self.new ≡ self.old) }
     {
         if priority < 0 || priority > 1200 {
@@ -174,7 +201,8 @@ impl Ops {
 
     /// Sets the entry of a name in the type's class; none for priority 0.
     fn set(&mut self, priority: u16, kind: OpType, name: &str) -> Result<(), NoMemory>
-        ensures ok { OnOk result (table_of self.new ≡ with_op priority kind (chars name.now) (table_of self.old)) }
+        ensures ok { OnOk result
+            (table_of self.new ≡ with_op priority kind (chars name.now) (table_of self.old)) }
         ensures err { OnErr result (self.new ≡ self.old) }
     {
         let entry = if priority == 0 {
@@ -253,8 +281,10 @@ fn set_entry(
     name: &str,
     entry: Option<Op>,
 ) -> Result<(), NoMemory>
-    ensures ok { OnOk result (found_in (entries_of entries.new.entries) ≡ changed (chars name.now) entry (found_in (entries_of entries.old.entries))) }
-    ensures err { OnErr result (entries_of entries.new.entries ≡ entries_of entries.old.entries) }
+    ensures ok { OnOk result (found_in (entries_of entries.new.entries)
+        ≡ changed (chars name.now) entry (found_in (entries_of entries.old.entries))) }
+    ensures err { OnErr result
+        (entries_of entries.new.entries ≡ entries_of entries.old.entries) }
 {
     let owned = String::from_str(*entries.allocator(), name)?;
     entries.insert(owned, entry)?;

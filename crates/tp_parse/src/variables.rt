@@ -11,7 +11,8 @@ use std::alloc::Global;
 use std::marker::Model;
 use tp_terms::{Named, Names, NoMemory, Text};
 
-/// The variables other than `_` with their numbers, in order of first occurrence, and how many variables there are.
+/// The variables other than `_` with their numbers, in order of first occurrence, and how many
+/// variables there are.
 #[derive(Drop)]
 pub struct Variables {
     named: IndexMap<String, u64>,
@@ -94,7 +95,8 @@ fn find(named: &IndexMap<String, u64>, name: &str) -> Option<u64>
 /// Adds a name that has no number, with this one.
 fn add(named: &mut IndexMap<String, u64>, name: &str, number: u64) -> Result<(), NoMemory>
     requires { number_in (numbers_of named.old.entries) (chars name.now) ≡ None }
-    ensures { OnOk result (numbers_of named.new.entries ≡ numbers_of named.old.entries ++ (chars name.now, number) ∷ []) }
+    ensures { OnOk result (numbers_of named.new.entries
+        ≡ numbers_of named.old.entries ++ (chars name.now, number) ∷ []) }
 {
     let owned = String::from_str(*named.allocator(), name)?;
     named.insert(owned, number)?;

@@ -1,12 +1,12 @@
 //! Whole clauses and goals, from their words.
 
-ghost use Rattle.std.specs.Prelude.{◌≡◌, ℕ, List, []};
+ghost use Rattle.std.specs.Prelude.{◌≡◌, ℕ, List, [], ◌<◌, length, Err, IfErr, IfOk, OnOk};
 ghost use Rattle.tp_lex.specs.Tokens.{is_end};
 ghost use Rattle.tp_terms.specs.Names.{Grows};
-ghost use Rattle.tp_parse.specs.Gives.{Fails, IsGoing};
-ghost use Rattle.tp_parse.specs.Ops.{table_of};
+ghost use Rattle.tp_parse.specs.NewNames.{AddsOnly, mentions};
+ghost use Rattle.tp_parse.specs.Progress.{ahead_in, ops_of};
 ghost use Rattle.tp_parse.specs.Reading.{finished};
-ghost use Rattle.tp_parse.specs.Steps.{trees_of};
+ghost use Rattle.tp_parse.specs.Tells.{term_read};
 ghost use Rattle.tp_parse.specs.Texts.{byte_at};
 ghost use Rattle.tp_parse.specs.Tree.{Tree};
 ghost use Rattle.tp_parse.specs.Whole.{GivesEnd, GivesWhole, TellsSteps, TellsWhole, ended_of, ends_of, reading_of, to_of};
@@ -15,6 +15,7 @@ ghost use Rattle.tp_parse.specs.Words.{AreKnown, ahead};
 use crate::build::build;
 use crate::cursor::Cursor;
 use crate::fault::{ReadCause, ReadFault};
+use crate::progress::Progress;
 use crate::read::ReadTerm;
 use crate::reader::read;
 use crate::steps::Step;
@@ -31,7 +32,9 @@ const MOST_PRIORITY: u16 = 1200;
 
 /// Nothing is left.
 fn finish(cursor: &Cursor<'_>) -> Result<(), Stop>
-    ensures { (text : List ℕ) (tree : Tree) → GivesEnd tree (ahead text cursor.now) result (finished tree (ahead text cursor.now)) }
+    ensures end { (text : List ℕ) (tree : Tree) → let ts = ahead text cursor.now in
+        GivesEnd tree ts result (finished tree ts) }
+    ensures memory { IfErr result (λ stop. ¬ (stop ≡ Stop.NoMemory)) }
 {
     match cursor.first() {
         Some(_) => Err(Stop::At(ReadCause::Syntax)),
@@ -41,7 +44,9 @@ fn finish(cursor: &Cursor<'_>) -> Result<(), Stop>
 
 /// The end of a clause or a goal.
 fn read_end(cursor: &mut Cursor<'_>, extent: Extent) -> Result<(), Stop>
-    ensures { (text : List ℕ) (tree : Tree) → GivesEnd tree (ahead text cursor.new) result (ends_of extent tree (ahead text cursor.old)) }
+    ensures end { (text : List ℕ) (tree : Tree) → GivesEnd tree (ahead text cursor.new) result
+        (ends_of extent tree (ahead text cursor.old)) }
+    ensures memory { IfErr result (λ stop. ¬ (stop ≡ Stop.NoMemory)) }
 {
     let Some(word) = cursor.first() else {
         return match extent {
@@ -57,18 +62,16 @@ fn read_end(cursor: &mut Cursor<'_>, extent: Extent) -> Result<(), Stop>
 }
 
 /// Reads all words.
-fn read_all(
-    source: &Source<'_>,
-    cursor: &mut Cursor<'_>,
-    steps: &mut Vec<Step>,
-    extent: Extent,
-) -> Result<(), Stop>
-    requires known { AreKnown (table_of source.now.ops.now) source.now.text.now cursor.old }
-    requires none { steps.old.items ≡ [] }
-    ensures { GivesWhole source.now.text.now steps.new.items (ahead source.now.text.now cursor.new) result (reading_of extent (table_of source.now.ops.now) (ahead source.now.text.now cursor.old)) }
+fn read_all(source: &Source<'_>, at: &mut Progress<'_>, extent: Extent) -> Result<(), Stop>
+    requires known { AreKnown (ops_of source.now) source.now.text.now at.old.cursor }
+    requires none { at.old.steps.items ≡ [] }
+    ensures whole { GivesWhole source.now.text.now at.new.steps.items (ahead_in source.now at.new)
+        result (reading_of extent (ops_of source.now) (ahead_in source.now at.old)) }
+    ensures memory { result ≡ Err Stop.NoMemory → 0 < length at.old.cursor }
+    ensures some { OnOk result (0 < length at.old.cursor) }
 {
-    read(source, cursor, steps, MOST_PRIORITY, MOST_LEVELS)?;
-    read_end(cursor, extent)
+    read(source, at, MOST_PRIORITY, MOST_LEVELS)?;
+    read_end(&mut at.cursor, extent)
 }
 
 /// The byte of the next word, and that of the text's end where there is none.
@@ -83,16 +86,21 @@ fn next_byte(cursor: &Cursor<'_>, end: usize) -> usize
 
 /// The steps of the term that all words are.
 fn steps_of(source: &Source<'_>, words: &[Word], extent: Extent) -> Result<Vec<Step>, ReadFault>
-    requires { AreKnown (table_of source.now.ops.now) source.now.text.now words.now }
-    ensures { TellsSteps (λ v. v.items) source.now.text.now result (reading_of extent (table_of source.now.ops.now) (ahead source.now.text.now words.now)) }
+    requires { AreKnown (ops_of source.now) source.now.text.now words.now }
+    ensures tells { let text = source.now.text.now in TellsSteps (λ v. v.items) text result
+        (reading_of extent (ops_of source.now) (ahead text words.now)) }
+    ensures memory { result ≡ Err ReadFault.NoMemory → 0 < length words.now }
+    ensures some { OnOk result (0 < length words.now) }
 {
-    let mut steps = Vec::new(source.alloc);
-    let mut cursor = Cursor::new(words);
-    match read_all(source, &mut cursor, &mut steps, extent) {
-        Ok(()) => Ok(steps),
+    let mut at = Progress {
+        cursor: Cursor::new(words),
+        steps: Vec::new(source.alloc),
+    };
+    match read_all(source, &mut at, extent) {
+        Ok(()) => Ok(at.steps),
         Err(Stop::NoMemory) => Err(ReadFault::NoMemory),
         Err(Stop::At(cause)) => Err(ReadFault::Refused {
-            byte: next_byte(&cursor, source.text.len()),
+            byte: next_byte(&at.cursor, source.text.len()),
             cause,
         }),
     }
@@ -141,9 +149,13 @@ pub fn read_words(
     extent: Extent,
     atoms: &mut Atoms,
 ) -> Result<ReadTerm, ReadFault>
-    requires { AreKnown (table_of source.now.ops.now) source.now.text.now words.now }
-    ensures read { TellsWhole atoms.new source.now.text.now (ahead source.now.text.now words.now) result (reading_of extent (table_of source.now.ops.now) (ahead source.now.text.now words.now)) }
+    requires { AreKnown (ops_of source.now) source.now.text.now words.now }
+    ensures read { let text = source.now.text.now in let ts = ahead text words.now in
+        TellsWhole atoms.new text ts result (reading_of extent (ops_of source.now) ts) }
     ensures grows { Grows atoms.old atoms.new }
+    ensures names { IfOk result (λ term.
+        AddsOnly (λ name. mentions name (term_read atoms.new term)) atoms.old atoms.new) }
+    ensures memory { result ≡ Err ReadFault.NoMemory → 0 < length words.now }
 {
     let steps = steps_of(source, words, extent)?;
     let (cells, root, variables) = build(source.alloc, source.text, &steps, atoms)?;

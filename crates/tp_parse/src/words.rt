@@ -1,18 +1,18 @@
 //! The tokens of a clause or a goal, with the operators of their names.
 
-ghost use Rattle.std.specs.Prelude.{◌≡◌, ℕ, ◌&&◌, chars, IfOk, IfSome, IsTrue, Option, Some, None};
+ghost use Rattle.std.specs.Prelude.{◌≡◌, ℕ, ◌&&◌, chars, IfOk, IfSome, IsTrue, Option, Some, None, Err, OnSome, ◌<◌, length};
 ghost use Rattle.std.specs.Str.{IsCharBoundary};
 ghost use Rattle.tp_lex.specs.Form.{has_name};
 ghost use Rattle.tp_lex.specs.Next.{IsTokenOf, StandsBehind, token_name};
 ghost use Rattle.tp_lex.specs.Tokens.{Reach, stands_directly, stops_at, tokens_from};
-ghost use Rattle.tp_parse.specs.Ops.{table_of};
-ghost use Rattle.tp_parse.specs.Texts.{refused_token};
-ghost use Rattle.tp_parse.specs.Words.{AreKnown, IsKnown, TellsNext, TellsWords, infix_by, prefix_by, reach_of};
+ghost use Rattle.tp_parse.specs.Progress.{IsWordOf, ops_of};
+ghost use Rattle.tp_parse.specs.Texts.{HasToken};
+ghost use Rattle.tp_parse.specs.Words.{AreKnown, TellsNext, TellsWords, infix_by, prefix_by, reach_of};
 
-use crate::fault::{ReadCause, ReadFault};
+use crate::fault::ReadFault;
 use crate::table::{Op, Ops};
 use std::alloc::Global;
-use tp_lex::{LexFault, Token, TokenKind, next_token, token_text};
+use tp_lex::{Token, TokenKind, next_token, token_text};
 use tp_terms::NoMemory;
 
 /// A token, with what the table of operators holds of its name.
@@ -70,8 +70,10 @@ pub fn plain_name<'a>(text: &'a str, token: &Token) -> &'a str
 /// The prefix operator and the infix operator of a token's name.
 fn operators(source: &Source<'_>, token: Token) -> Result<(Option<Op>, Option<Op>), NoMemory>
     requires { IsTokenOf source.now.text.now token }
-    ensures before { IfOk result (λ r. r.0 ≡ prefix_by (table_of source.now.ops.now) token.kind (token_name source.now.text.now token)) }
-    ensures between { IfOk result (λ r. r.1 ≡ infix_by (table_of source.now.ops.now) token.kind (token_name source.now.text.now token)) }
+    ensures before { let name = token_name source.now.text.now token in
+        IfOk result (λ r. r.0 ≡ prefix_by (ops_of source.now) token.kind name) }
+    ensures between { let name = token_name source.now.text.now token in
+        IfOk result (λ r. r.1 ≡ infix_by (ops_of source.now) token.kind name) }
 {
     match token.kind {
         TokenKind::Name => {
@@ -95,7 +97,7 @@ fn make_word(source: &Source<'_>, token: Token, direct: bool) -> Result<Word, No
     requires { IsTokenOf source.now.text.now token }
     ensures token { IfOk result (λ w. w.token ≡ token) }
     ensures direct { IfOk result (λ w. w.direct ≡ direct) }
-    ensures known { IfOk result (IsKnown (table_of source.now.ops.now) source.now.text.now) }
+    ensures known { IfOk result (IsWordOf source.now) }
 {
     let (as_prefix, as_infix) = operators(source, token)?;
     Ok(Word {
@@ -116,32 +118,16 @@ fn stands_directly(end: Option<usize>, from: usize) -> bool
     }
 }
 
-/// The refusal of a text that has no token there.
-fn refused_token(fault: LexFault) -> ReadFault
-    ensures { let r = refused_token fault in result ≡ ReadFault.Refused r.0 r.1 }
-{
-    match fault {
-        LexFault::BadToken(byte) => ReadFault::Refused {
-            byte,
-            cause: ReadCause::Token,
-        },
-        LexFault::NumberRange(byte) => ReadFault::Refused {
-            byte,
-            cause: ReadCause::Number,
-        },
-        LexFault::Unfinished(byte) => ReadFault::Refused {
-            byte,
-            cause: ReadCause::Unfinished,
-        },
-    }
-}
-
 /// The next word from a byte on, the token before it ending at a byte; none where no token remains.
 fn next_word(source: &Source<'_>, at: usize, end: Option<usize>) -> Result<Option<Word>, ReadFault>
     requires { IsCharBoundary source.now.text.now at }
-    ensures tokens { (reach : Reach) → TellsNext reach source.now.text.now (tokens_from reach source.now.text.now) result (tokens_from reach source.now.text.now at end) }
-    ensures place { IfOk result (λ found. IfSome found (λ w. StandsBehind source.now.text.now at w.token)) }
-    ensures known { IfOk result (λ found. IfSome found (IsKnown (table_of source.now.ops.now) source.now.text.now)) }
+    ensures tokens { (reach : Reach) → let text = source.now.text.now in
+        TellsNext reach text (tokens_from reach text) result (tokens_from reach text at end) }
+    ensures memory { result ≡ Err ReadFault.NoMemory → HasToken source.now.text.now at }
+    ensures there { IfOk result (λ found. OnSome found (HasToken source.now.text.now at)) }
+    ensures place { IfOk result (λ found.
+        IfSome found (λ w. StandsBehind source.now.text.now at w.token)) }
+    ensures known { IfOk result (λ found. IfSome found (IsWordOf source.now)) }
 {
     match next_token(source.text, at) {
         Ok(Some(token)) => {
@@ -150,7 +136,7 @@ fn next_word(source: &Source<'_>, at: usize, end: Option<usize>) -> Result<Optio
             Ok(Some(word))
         }
         Ok(None) => Ok(None),
-        Err(fault) => Err(refused_token(fault)),
+        Err(fault) => Err(ReadFault::from(fault)),
     }
 }
 
@@ -160,8 +146,11 @@ fn next_word(source: &Source<'_>, at: usize, end: Option<usize>) -> Result<Optio
 /// The refusal of the first token that is none, and `NoMemory`.
 pub fn take_words(source: &Source<'_>, at: usize, extent: Extent) -> Result<Vec<Word>, ReadFault>
     requires { IsCharBoundary source.now.text.now at }
-    ensures tokens { TellsWords (λ v. v.items) source.now.text.now result (tokens_from (reach_of extent) source.now.text.now at None) }
-    ensures known { IfOk result (λ v. AreKnown (table_of source.now.ops.now) source.now.text.now v.items) }
+    ensures tokens { let text = source.now.text.now in
+        TellsWords (λ v. v.items) text result (tokens_from (reach_of extent) text at None) }
+    ensures known { IfOk result (λ v. AreKnown (ops_of source.now) source.now.text.now v.items) }
+    ensures memory { result ≡ Err ReadFault.NoMemory → HasToken source.now.text.now at }
+    ensures there { IfOk result (λ v. 0 < length v.items → HasToken source.now.text.now at) }
 {
     let mut words = Vec::new(source.alloc);
     let mut from = at;

@@ -1,6 +1,6 @@
 -- Bodies of goals.
 use Rattle.std.specs.Prelude.{codes}
-use Rattle.std.proofs.Common.{◌≡◌, ℕ, zero, suc, ◌+◌, ◌<◌, ◌≤◌, Bool, true, false, cond, nat_eq, ◌&&◌, ◌||◌, List, [], ◌∷◌, ◌++◌, length, reverse, get_or, Option, Some, None, slice_get, Result, Ok, Err, IfOk, OnOk, refl, sym, ap, subst, ◌∙◌, arith, append_assoc, append-nil, length-append, add-one}
+use Rattle.std.proofs.Common.{◌≡◌, ℕ, zero, suc, ◌+◌, ◌<◌, ◌≤◌, Bool, true, false, cond, nat_eq, ◌&&◌, ◌||◌, List, [], ◌∷◌, ◌++◌, length, reverse, get_or, Option, Some, None, slice_get, Result, Ok, Err, IfOk, OnOk, OnErr, refl, sym, ap, subst, ◌∙◌, arith, append_assoc, append-nil, length-append, add-one}
 use Rattle.std.proofs.lemmas.Bool.{eqb-true}
 use Rattle.std.proofs.lemmas.List.{reverse-reverse}
 use Rattle.std.proofs.lemmas.Option.{slice_get_within}
@@ -26,7 +26,7 @@ use Rattle.tp_store.specs.declared.chains.End.{End}
 use Rattle.tp_store.specs.Contents.{Contents, AddsCells, IsStore, IsUnbound, chained, subst_of, seen, seen_cell, with_cell}
 use Rattle.tp_store.specs.Chain.{IsEnd}
 use Rattle.tp_store.specs.Work.{AreIn}
-use Rattle.tp_store.specs.Bodies.{joins, compound_form, form_of, pair_of, IsPair, onward, bodies_by, seen_each, AreJobs, jobs_size, Goes, Looked}
+use Rattle.tp_store.specs.Bodies.{joins, compound_form, form_of, pair_of, IsPair, asks_memory, onward, bodies_by, seen_each, AreJobs, AreOwn, AsksMemory, KeepsOwn, jobs_size, Goes, Looked}
 use Rattle.tp_store.proofs.KeptLemmas.{seen-append, subst_of-append}
 use Rattle.tp_store.proofs.StoreLemmas.{value-unbound}
 
@@ -158,6 +158,16 @@ module _ (names : List Name) (c : Contents) where
   body-variable s (cell.Atom name) e free = absurd (cc)
   body-variable s (cell.Comp name first count) e free = absurd (never_variable (nat_eq count 2 && joins name) name first e)
 
+  -- a variable isn't its own body
+  variable_called : IsStore c → (x : Cell) → form_of x ≡ Variable → IsUnbound c.pairs x → body (seen_cell names c x) ≡ Some (seen_cell names c x) → ⊥
+  variable_called s (cell.Var v) e free own =
+      let value : value_at (subst_of names c) v ≡ Var v = value-unbound names c v s free in
+      let called : Some (Comp (codes "call") (More (value_at (subst_of names c) v) NoMore)) ≡ Some (value_at (subst_of names c) v) = sym (body-variable s (cell.Var v) e free) ∙ own in
+      absurd (cc)
+  variable_called s (cell.Int value) e free own = absurd (cc)
+  variable_called s (cell.Atom name) e free own = absurd (cc)
+  variable_called s (cell.Comp name first count) e free own = absurd (never_variable (nat_eq count 2 && joins name) name first e)
+
   body-plain : IsTable names → (x : Cell) → IsNamed (length names) x → form_of x ≡ Plain → body (seen_cell names c x) ≡ Some (seen_cell names c x)
   body-plain t (cell.Var v) lt e = absurd (cc)
   body-plain t (cell.Int value) lt e = absurd (cc)
@@ -179,6 +189,12 @@ module _ (names : List Name) (c : Contents) where
       ap (λ y. body (seen_cell names c y)) p.0
       ∙ ap (λ z. cond z (pair_body (name_at names name.at) (body a) (body b)) (Some (pair_of (name_at names name.at) a b))) (joins-same names t name low ∙ p.1)
 
+-- two goals that are their own bodies when they are joined are their own bodies each
+parts_own : (f : Name) (x y : Option Term) (a b : Term) → pair_body f x y ≡ Some (pair_of f a b) → (x ≡ Some a) × (y ≡ Some b)
+parts_own f None y a b e = absurd (cc)
+parts_own f (Some x) None a b e = absurd (cc)
+parts_own f (Some x) (Some y) a b e = (cc, cc)
+
 pair_onward : (f : Name) (a b : Option Term) (k : Term → Option (List Term)) → onward a (λ x. onward b (λ y. k (pair_of f x y))) ≡ onward (pair_body f a b) k
 pair_onward f None b k = refl
 pair_onward f (Some x) None k = refl
@@ -190,8 +206,9 @@ module _ (c : Contents) (s : IsStore c) (at : Ref) (jobs : List Job) (made : Lis
     (e : End) (end : IsEnd c e) (same : (names : List Name) → seen_cell names c e.cell ≡ seen names c at.at) where
   one_more : (c' : Contents) → AddsCells c c' → (p : Ref) → p.at < length c'.cells →
       ((names : List Name) → IsTable names → AreNamed (length names) c.cells → body (seen names c at.at) ≡ Some (seen names c' p.at)) →
+      ((names : List Name) → IsTable names → AreNamed (length names) c.cells → body (seen names c at.at) ≡ Some (seen names c at.at) → (c' ≡ c) × (p ≡ at)) →
       ((n : ℕ) → CALL.at < n → AreNamed n c.cells → AreNamed n c'.cells) → Looked true c at jobs made c' jobs (p ∷ made)
-  one_more c' a p lt is named = (
+  one_more c' a p lt is own named = (
     record {
       adds = a;
       can = AreJobs-later c c' s a jobs (suc (length made)) can.1;
@@ -201,6 +218,9 @@ module _ (c : Contents) (s : IsStore c) (at : Ref) (jobs : List Job) (made : Lis
           bodies_by-later c c' s a names jobs (suc (length made)) (seen names c' p.at ∷ seen_each names c' made) can.1
           ∙ ap (λ ts. bodies_by names c jobs (seen names c' p.at ∷ ts)) (seen_each-later c c' s a names made within)
           ∙ ap (λ o. onward o (λ t. bodies_by names c jobs (t ∷ seen_each names c made))) (sym (is names t h));
+      own = λ names t h root o.
+          let q = own names t h o.0 in
+          (q.0, subst (λ (x : Contents). AreOwn names x root jobs (p ∷ made)) (sym q.0) (subst (λ (r : Ref). AreOwn names c root jobs (r ∷ made)) (sym q.1) o.1));
     },
     let z : jobs_size c' jobs ≡ jobs_size c jobs = jobs_size-later c c' s a jobs (suc (length made)) can.1 in omega (arith, z, has_size (seen [] c at.at)),
   )
@@ -216,7 +236,7 @@ module _ (c : Contents) (s : IsStore c) (at : Ref) (jobs : List Job) (made : Lis
 
   pub looked_plain : form_of e.cell ≡ Plain → Looked true c at jobs made c jobs (at ∷ made)
   looked_plain is = one_more c (adds_none c) at can.0
-      (λ names t h. ap body (sym (same names)) ∙ body-plain names c t e.cell (named_cell names h) is ∙ ap Some (same names)) (λ n k h. h)
+      (λ names t h. ap body (sym (same names)) ∙ body-plain names c t e.cell (named_cell names h) is ∙ ap Some (same names)) (λ names t h o. (refl, refl)) (λ n k h. h)
 
   pub looked_variable : form_of e.cell ≡ Variable → (c' : Contents) → AddsCells c c' → (p : Ref) → p.at < length c'.cells →
       ((names : List Name) → seen names c' p.at ≡ Comp (name_at names CALL.at) (More (seen names c e.place.at) NoMore)) →
@@ -225,6 +245,7 @@ module _ (c : Contents) (s : IsStore c) (at : Ref) (jobs : List Job) (made : Lis
       (λ names t h.
       ap body (sym (same names)) ∙ body-variable names c s e.cell is end.unbound
       ∙ ap Some (ap (λ u. Comp (codes "call") (More u NoMore)) (sym (place_seen names)) ∙ ap (λ f. Comp f (More (seen names c e.place.at) NoMore)) (sym (call-named names t)) ∙ sym (shown names)))
+      (λ names t h o. absurd (variable_called names c s e.cell is end.unbound (ap body (same names) ∙ o ∙ ap Some (sym (same names)))))
       named
 
   module _ (name : AtomId) (first second : Ref) (is : form_of e.cell ≡ Pair name first) (next : second.at ≡ first.at + 1) where
@@ -256,6 +277,12 @@ module _ (c : Contents) (s : IsStore c) (at : Ref) (jobs : List Job) (made : Lis
             ∙ ap (λ k. onward (pair_body (name_at names name.at) (body (seen names c first.at)) (body (seen names c k))) (λ u. bodies_by names c jobs (u ∷ seen_each names c made))) following
             ∙ ap (λ o. onward o (λ u. bodies_by names c jobs (u ∷ seen_each names c made))) (sym (body-pair names c t e.cell name first (named_cell names h) is))
             ∙ ap (λ u. onward (body u) (λ v. bodies_by names c jobs (v ∷ seen_each names c made))) (same names);
+        own = λ names t h root o.
+            let b : pair_body (name_at names name.at) (body (seen names c first.at)) (body (seen names c second.at)) ≡ Some (pair_of (name_at names name.at) (seen names c first.at) (seen names c second.at)) =
+            ap (λ k. pair_body (name_at names name.at) (body (seen names c first.at)) (body (seen names c k))) following
+            ∙ sym (body-pair names c t e.cell name first (named_cell names h) is) ∙ ap body (same names) ∙ o.0 ∙ ap Some (two.joined names) in
+            let q = parts_own (name_at names name.at) (body (seen names c first.at)) (body (seen names c second.at)) (seen names c first.at) (seen names c second.at) b in
+            (refl, (q.0, (q.1, (made, refl, o.1))));
       },
       let z : term_size (seen [] c at.at) ≡ 1 + (term_size (seen [] c first.at) + (term_size (seen [] c second.at) + 0)) = ap term_size (two.joined []) in omega (arith, z),
     )
@@ -264,7 +291,8 @@ module _ (c : Contents) (s : IsStore c) (at : Ref) (jobs : List Job) (made : Lis
 
 module _ (c c' : Contents) (s : IsStore c) (a : AddsCells c c') (at : Ref) (name : AtomId) (left right : Ref) (jobs : List Job) (x y : Ref) (made : List Ref)
     (can : AreJobs c (Join at name left right ∷ jobs) (length (y ∷ x ∷ made))) (within : AreIn c.cells (y ∷ x ∷ made)) (p : Ref) (lt : p.at < length c'.cells)
-    (shown : (names : List Name) → seen names c' p.at ≡ pair_of (name_at names name.at) (seen names c x.at) (seen names c y.at)) (named : (n : ℕ) → name.at < n → AreNamed n c.cells → AreNamed n c'.cells) where
+    (shown : (names : List Name) → seen names c' p.at ≡ pair_of (name_at names name.at) (seen names c x.at) (seen names c y.at)) (named : (n : ℕ) → name.at < n → AreNamed n c.cells → AreNamed n c'.cells)
+    (own : x ≡ left → y ≡ right → (c' ≡ c) × (p ≡ at)) where
   left_over : AreJobs c jobs (suc (length made))
   left_over = let q : suc (suc (length made)) ≡ suc (suc can.1.0) = can.1.1 in let r : can.1.0 ≡ length made = omega arith in subst (λ n. AreJobs c jobs (suc n)) r can.1.2
 
@@ -278,12 +306,20 @@ module _ (c c' : Contents) (s : IsStore c) (a : AddsCells c c') (at : Ref) (name
         bodies_by-later c c' s a names jobs (suc (length made)) (seen names c' p.at ∷ seen_each names c' made) left_over
         ∙ ap (λ ts. bodies_by names c jobs (seen names c' p.at ∷ ts)) (seen_each-later c c' s a names made within.1.1)
         ∙ ap (λ u. bodies_by names c jobs (u ∷ seen_each names c made)) (shown names);
+    own = λ names t h root o.
+        let is : y ∷ x ∷ made ≡ right ∷ left ∷ o.0 = o.1 in
+        let first : x ≡ left = cc in
+        let second : y ≡ right = cc in
+        let q = own first second in
+        let rest : o.0 ≡ made = cc in
+        (q.0, subst (λ (c2 : Contents). AreOwn names c2 root jobs (p ∷ made)) (sym q.0)
+        (subst (λ (r : Ref). AreOwn names c root jobs (r ∷ made)) (sym q.1) (subst (λ (rs : List Ref). AreOwn names c root jobs (at ∷ rs)) rest o.2)));
   }
 
 -- ---- jobs one after another
 
 pub goes_start : (c : Contents) (root : Ref) → root.at < length c.cells → Goes c (Convert root ∷ []) [] c (Convert root ∷ []) []
-goes_start c root lt = record { adds = adds_none c; can = (lt, refl); within = tt; named = λ n k h j. (h, j); same = λ names t h j. refl }
+goes_start c root lt = record { adds = adds_none c; can = (lt, refl); within = tt; named = λ n k h j. (h, j); same = λ names t h j. refl; own = λ names t h r o. (refl, o) }
 
 pub goes_on : (c d e : Contents) (js ks ls : List Job) (ms ns os : List Ref) → Goes c js ms d ks ns → Goes d ks ns e ls os → Goes c js ms e ls os
 goes_on c d e js ks ls ms ns os g h = record {
@@ -292,6 +328,10 @@ goes_on c d e js ks ls ms ns os g h = record {
   within = h.within;
   named = λ n k b j. let r = g.named n k b j in h.named n k r.0 r.1;
   same = λ names t b j. let r = g.named (length names) (start-within names t 10 (omega arith)) b j in h.same names t r.0 r.1 ∙ g.same names t b j;
+  own = λ names t b root o.
+      let q = g.own names t b root o in
+      let r = h.own names t (subst (λ (x : Contents). AreNamed (length names) x.cells) (sym q.0) b) root q.1 in
+      (r.0 ∙ q.0, r.1);
 }
 
 none_onward : (o : Option Term) → onward o (λ t. Some (t ∷ [])) ≡ None → o ≡ None
@@ -316,6 +356,7 @@ pub record IsDone (c : Contents) (root : Ref) (now : Contents) (made : List Ref)
   pub within : place.at < length now.cells
   pub found : (names : List Name) → IsTable names → AreNamed (length names) c.cells → Some (seen names now place.at) ≡ body (seen names c root.at)
   pub named : (n : ℕ) → CALL.at < n → AreNamed n c.cells → AreNamed n now.cells
+  pub own : KeepsOwn c now root (Some place)
 
 pub done : (c now : Contents) (root : Ref) (made : List Ref) → Goes c (Convert root ∷ []) [] now [] made → IsDone c root now made
 done c now root [] g = absurd (let e = g.can in omega arith)
@@ -326,7 +367,15 @@ done c now root (r ∷ []) g = record {
   within = g.within.0;
   found = λ names t h. some_onward (body (seen names c root.at)) (seen names now r.at) (g.same names t h tt);
   named = λ n k h. (g.named n k h tt).0;
+  own = λ names t h o.
+      let q = g.own names t h root (o, refl) in
+      let is : r ∷ [] ≡ root ∷ [] = q.1 in
+      record { place = (let e : r ≡ root = cc in ap Some e); same = q.0 };
 }
+
+-- a place was found for another one
+pub own_at : (c now : Contents) (root p q : Ref) → q ≡ p → KeepsOwn c now root (Some p) → KeepsOwn c now root (Some q)
+own_at c now root p q e h = subst (λ (r : Ref). KeepsOwn c now root (Some r)) (sym e) h
 
 -- ---- goals that are made
 
@@ -394,3 +443,47 @@ first_made xs x y only e = e ∙ ap (λ rs. get_or rs 0 y) (sym (reverse-reverse
 pub plain_own : (c : Contents) (at : ℕ) (e : End) → IsEnd c e → ((names : List Name) → seen_cell names c e.cell ≡ seen names c at) → form_of e.cell ≡ Plain →
     (names : List Name) → IsTable names → AreNamed (length names) c.cells → body (seen names c at) ≡ Some (seen names c at)
 plain_own c at e end same is names t h = ap body (sym (same names)) ∙ body-plain names c t e.cell (AreNamed-cell (length names) c.cells e.place.at e.cell h end.cell) is ∙ ap Some (same names)
+
+-- an integer has no body, and so isn't its own
+pub integer_none : (c : Contents) (at : ℕ) (e : End) → ((names : List Name) → seen_cell names c e.cell ≡ seen names c at) → form_of e.cell ≡ Integer → (names : List Name) → body (seen names c at) ≡ None
+integer_none c at e same is names = ap body (sym (same names)) ∙ body-integer names c e.cell is
+
+pub none_own : (c now : Contents) (goal : Ref) → ((names : List Name) → IsTable names → AreNamed (length names) c.cells → body (seen names c goal.at) ≡ None) → KeepsOwn c now goal None
+none_own c now goal none = λ names t h o. absurd (let e = none names t h in cc)
+
+pub pairs_same : (p q : Ref × Ref) → p.0 ≡ q.0 → p.1 ≡ q.1 → p ≡ q
+pairs_same (a, b) (c, d) e f = ap (λ (x : Ref). (x, b)) e ∙ ap (λ (x : Ref). (c, x)) f
+
+asks_joined : (b : Bool) (name : AtomId) (first : Ref) → (cond b (Pair name first) Plain ≡ Plain → ⊥) → b ≡ true
+asks_joined true name first plain = refl
+asks_joined false name first plain = absurd (plain refl)
+
+not_two : (n : ℕ) → nat_eq (suc (suc (suc n))) 2 ≡ false
+not_two n = go (nat_eq (suc (suc (suc n))) 2) refl
+  where
+    go : (b : Bool) → nat_eq (suc (suc (suc n))) 2 ≡ b → b ≡ false
+    go true e = let two : suc (suc (suc n)) ≡ 2 = eqb-true (suc (suc (suc n))) 2 e in absurd (omega arith)
+    go false e = refl
+
+-- a goal is a variable or two joined goals where it isn't its own body and no integer
+module _ (c : Contents) (s : IsStore c) (names : List Name) (table : IsTable names) where
+  asks_cell : (x : Cell) → IsNamed (length names) x → IsUnbound c.pairs x → (form_of x ≡ Plain → ⊥) → (form_of x ≡ Integer → ⊥) → asks_memory (seen_cell names c x) ≡ true
+  asks_cell (cell.Var v) lt free plain integer = ap asks_memory (value-unbound names c v s free)
+  asks_cell (cell.Int value) lt free plain integer = absurd (integer refl)
+  asks_cell (cell.Atom name) lt free plain integer = absurd (plain refl)
+  asks_cell (cell.Comp name first zero) lt free plain integer = absurd (plain refl)
+  asks_cell (cell.Comp name first (suc zero)) lt free plain integer = absurd (plain refl)
+  asks_cell (cell.Comp name first (suc (suc zero))) lt free plain integer = joins-same names table name lt ∙ asks_joined (joins name) name first plain
+  asks_cell (cell.Comp name first (suc (suc (suc n)))) lt free plain integer = absurd (plain (ap (λ b. cond (b && joins name) (Pair name first) Plain) (not_two n)))
+
+pub asks_for : (c : Contents) (goal : Ref) (e : End) → IsStore c → IsEnd c e → ((names : List Name) → seen_cell names c e.cell ≡ seen names c goal.at) →
+    (form_of e.cell ≡ Plain → ⊥) → (form_of e.cell ≡ Integer → ⊥) → AsksMemory c goal
+asks_for c goal e s end same plain integer = λ names t h.
+    ap asks_memory (sym (same names)) ∙ asks_cell c s names t e.cell (AreNamed-cell (length names) c.cells e.place.at e.cell h end.cell) end.unbound plain integer
+
+pub on_any_err : {A E P : Type 0} (r : Result A E) → P → OnErr r P
+on_any_err (Ok x) p = tt
+on_any_err (Err x) p = p
+
+pub ok_value : {A E : Type 0} (r : Result A E) (a b : A) → r ≡ Ok a → r ≡ Ok b → a ≡ b
+ok_value r a b e f = cc

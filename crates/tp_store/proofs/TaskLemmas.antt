@@ -15,7 +15,7 @@ use Rattle.tp_meaning.proofs.Complete.{left, right, has_size}
 use Rattle.tp_store.specs.declared.copy.Task.{Task}
 use Rattle.tp_store.specs.declared.copy.Task.TheVariants.{Copy, Build}
 use Rattle.tp_store.specs.Contents.{Contents, AddsCells, IsNumbered, with_cell}
-use Rattle.tp_store.specs.Copy.{IsClaimed, copies, made_by, AreTasks, AreReady, looked_at}
+use Rattle.tp_store.specs.Copy.{IsClaimed, IsLast, copies, made_by, AreTasks, AreReady, looked_at}
 use Rattle.tp_store.proofs.CopyLemmas.{AreReady-later}
 
 -- ---- rows of arguments
@@ -103,6 +103,16 @@ tasks_size-copies : (from : List Cell) (first n : ℕ) (tasks : List Task) → t
 tasks_size-copies from first zero tasks = omega arith
 tasks_size-copies from first (suc n) tasks = let h = size-last from first n in omega (arith, h, tasks_size-copies from first n tasks)
 
+-- how many cells the tasks add, and leave among those that are made
+abbrev pub cells_left : List Cell → List Task → ℕ
+cells_left from [] = 0
+cells_left from (Copy at ∷ tasks) = term_size (shows [] from at.at) + cells_left from tasks
+cells_left from (Build name count ∷ tasks) = 1 + cells_left from tasks
+
+cells_left-copies : (from : List Cell) (first n : ℕ) (tasks : List Task) → cells_left from (copies first n ++ tasks) ≡ terms_size (args_at [] from first n) + cells_left from tasks
+cells_left-copies from first zero tasks = omega arith
+cells_left-copies from first (suc n) tasks = let h = size-last from first n in omega (arith, h, cells_left-copies from first n tasks)
+
 -- ---- the cells of a row, once they stand
 
 shown_row : (names : List Name) (cells xs : List Cell) (vars : ℕ) → AreReady (length cells) vars xs → args_at names (cells ++ xs) (length cells) (length xs) ≡ terms_of (map (shown_from names cells) xs)
@@ -138,6 +148,7 @@ pub record IsCopying (from : List Cell) (base root : ℕ) (old now : Contents) (
   pub adds : AddsCells old now
   pub ready : AreReady (length now.cells) now.vars made
   pub can : AreTasks from base now.vars tasks (length made)
+  pub few : length now.cells + (length made + cells_left from tasks) ≡ length old.cells + term_size (shows [] from root)
   pub makes : (names : List Name) → made_by names from base tasks (map (shown_from names now.cells) made) ≡ renamed base (shows names from root) ∷ []
   pub named : (n : ℕ) → AreNamed n from → AreNamed n old.cells → AreNamed n now.cells × AreNamed n made × AreTasksNamed n tasks
 
@@ -146,26 +157,28 @@ copy_start from base root c lt claimed = record {
   adds = record { more = []; cells = sym (append-nil c.cells); pairs = refl; vars = refl };
   ready = tt;
   can = (lt, claimed, refl);
+  few = omega arith;
   makes = λ names. refl;
   named = λ n f h. (h, tt, tt);
 }
 
 module _ (from : List Cell) (base root : ℕ) (old now : Contents) (at : Ref) (tasks : List Task) (made : List Cell) (h : IsCopying from base root old now (Copy at ∷ tasks) made) where
   -- one more cell is made
-  one_more : (x : Cell) → StandsBefore (length now.cells) x → IsNumbered now.vars x → ((names : List Name) → shown_from names now.cells x ≡ renamed base (shows names from at.at)) → ((n : ℕ) → AreNamed n from → IsNamed n x) → IsCopying from base root old now tasks (x ∷ made)
-  one_more x before numbered shown named = record {
+  one_more : (x : Cell) → term_size (shows [] from at.at) ≡ 1 → StandsBefore (length now.cells) x → IsNumbered now.vars x → ((names : List Name) → shown_from names now.cells x ≡ renamed base (shows names from at.at)) → ((n : ℕ) → AreNamed n from → IsNamed n x) → IsCopying from base root old now tasks (x ∷ made)
+  one_more x one before numbered shown named = record {
     adds = h.adds;
     ready = (before, numbered, h.ready);
     can = h.can.2;
+    few = let e = h.few in omega (arith, e, one);
     makes = λ names. ap (λ t. made_by names from base tasks (t ∷ map (shown_from names now.cells) made)) (shown names) ∙ h.makes names;
     named = λ n f k. let r = h.named n f k in (r.0, (named n f, r.1), r.2);
   }
 
   pub copy_look : (x : Cell) → slice_get from at.at ≡ Some x → StandsBefore at.at x → IsCopying from base root old now (looked_at x base tasks made).0 (looked_at x base tasks made).1
-  copy_look (cell.Var v) e before = one_more (cell.Var (v + base)) tt
+  copy_look (cell.Var v) e before = one_more (cell.Var (v + base)) (ap term_size (shows-cell [] from at.at (cell.Var v) e before)) tt
       (h.can.1 v (ap (occurs v) (shows-cell [] from at.at (cell.Var v) e before) ∙ eq-eqb v v refl)) (λ names. ap (renamed base) (sym (shows-cell names from at.at (cell.Var v) e before))) (λ n f. tt)
-  copy_look (cell.Int value) e before = one_more (cell.Int value) tt tt (λ names. ap (renamed base) (sym (shows-cell names from at.at (cell.Int value) e before))) (λ n f. tt)
-  copy_look (cell.Atom name) e before = one_more (cell.Atom name) tt tt (λ names. ap (renamed base) (sym (shows-cell names from at.at (cell.Atom name) e before))) (λ n f. AreNamed-cell n from at.at (cell.Atom name) f e)
+  copy_look (cell.Int value) e before = one_more (cell.Int value) (ap term_size (shows-cell [] from at.at (cell.Int value) e before)) tt tt (λ names. ap (renamed base) (sym (shows-cell names from at.at (cell.Int value) e before))) (λ n f. tt)
+  copy_look (cell.Atom name) e before = one_more (cell.Atom name) (ap term_size (shows-cell [] from at.at (cell.Atom name) e before)) tt tt (λ names. ap (renamed base) (sym (shows-cell names from at.at (cell.Atom name) e before))) (λ n f. AreNamed-cell n from at.at (cell.Atom name) f e)
   copy_look (cell.Comp name first count) e before =
       let within : at.at < length from = h.can.0 in
       let room : first.at + count ≤ at.at = before.1 in
@@ -175,6 +188,8 @@ module _ (from : List Cell) (base root : ℕ) (old now : Contents) (at : Ref) (t
         can = AreTasks-copies from base now.vars first.at count (length made) (Build name count ∷ tasks) (omega arith)
             (λ k lt v o. h.can.1 v (ap (occurs v) (shows-cell [] from at.at (cell.Comp name first count) e before) ∙ occurs-arg [] from v first.at count k lt o))
             (before.0, (length made, refl, h.can.2));
+        few = let k : term_size (shows [] from at.at) ≡ 1 + terms_size (args_at [] from first.at count) = ap term_size (shows-cell [] from at.at (cell.Comp name first count) e before) in
+            let f = h.few in omega (arith, f, k, cells_left-copies from first.at count (Build name count ∷ tasks));
         makes = λ names.
             made_by-compound names from base name first.at count tasks (map (shown_from names now.cells) made)
             ∙ ap (λ t. made_by names from base tasks (renamed base t ∷ map (shown_from names now.cells) made)) (sym (shows-cell names from at.at (cell.Comp name first count) e before)) ∙ h.makes names;
@@ -253,6 +268,7 @@ module _ (from : List Cell) (base root : ℕ) (old now new : Contents) (name : A
       ready = subst (λ v. AreReady (length new.cells) v (cell.Comp name (record { at = length now.cells }) count ∷ drop count made)) (sym adds.vars) ((h.can.0, omega (arith, longer)), tt, parts.1);
       can = subst (λ v. AreTasks from base v tasks (suc (length (drop count made)))) (sym adds.vars)
           (subst (λ n. AreTasks from base now.vars tasks (suc n)) (let e : length made ≡ count + h.can.1.0 = h.can.1.1 in let d : h.can.1.0 ≡ length (drop count made) = omega (arith, length-drop count made) in d) h.can.1.2);
+      few = let f = h.few in omega (arith, f, longer, length-drop count made, build_enough);
       makes = λ names. ap (λ t. made_by names from base tasks (t ∷ map (shown_from names new.cells) (drop count made))) (built names)
           ∙ ap (λ l. made_by names from base tasks (Comp (name_at names name.at) (terms_of (take count (map (shown_from names now.cells) made))) ∷ l)) (rest_same names) ∙ h.makes names;
       named = λ n f k.
@@ -269,6 +285,7 @@ pub record IsCopied (from : List Cell) (base root : ℕ) (old now : Contents) (m
   pub only : made ≡ cell ∷ []
   pub before : StandsBefore (length now.cells) cell
   pub numbered : IsNumbered now.vars cell
+  pub few : length now.cells + 1 ≡ length old.cells + term_size (shows [] from root)
   pub shown : (names : List Name) → shown_from names now.cells cell ≡ renamed base (shows names from root)
   pub named : (n : ℕ) → AreNamed n from → AreNamed n old.cells → AreNamed n now.cells × IsNamed n cell
 
@@ -280,6 +297,7 @@ copy_end from base root old now (x ∷ []) h = record {
   only = refl;
   before = h.ready.0;
   numbered = h.ready.1;
+  few = let f = h.few in omega (arith, f);
   shown = λ names. let e = h.makes names in cc;
   named = λ n f k. let r = h.named n f k in (r.0, r.1.0);
 }
@@ -290,6 +308,12 @@ module _ (from : List Cell) (base root : ℕ) (old now : Contents) (made : List 
   copied_shown at e names =
       ap (λ (c : Contents). shows names c.cells at) value ∙ ap (shows names (now.cells ++ x ∷ [])) e ∙ shows-push names now.cells x
       ∙ ap (shown_from names now.cells) same ∙ h.shown names
+
+  pub copied_last : (at : ℕ) → at ≡ length now.cells → IsLast old.cells new.cells (shows [] from root) at
+  copied_last at e =
+      let longer : length new.cells ≡ length now.cells + 1 = ap (λ (c : Contents). length c.cells) value ∙ length-append now.cells (x ∷ []) in
+      let f = h.few in
+      record { last = omega (arith, e, longer); few = omega (arith, f, longer) }
 
   pub copied_named : (n : ℕ) → AreNamed n from → AreNamed n old.cells → AreNamed n new.cells
   copied_named n f k =

@@ -7,8 +7,8 @@ use Rattle.tp_terms.specs.declared.cells.Ref.{Ref}
 use Rattle.tp_terms.specs.declared.symbols.TheConstants.{CONJUNCTION, DISJUNCTION, IF_THEN, CALL}
 use Rattle.tp_terms.specs.Names.{IsTable}
 use Rattle.tp_terms.specs.Shown.{name_at, AreNamed}
-use Rattle.tp_terms.specs.Term.{Name, Term, Comp, NoMore, More, term_size}
-use Rattle.tp_meaning.specs.Body.{body}
+use Rattle.tp_terms.specs.Term.{Name, Term, Var, Comp, NoMore, More, term_size}
+use Rattle.tp_meaning.specs.Body.{body, joins_goals}
 use Rattle.tp_store.specs.declared.body.Form.{Form}
 use Rattle.tp_store.specs.declared.body.Form.TheVariants.{Integer, Variable, Pair, Plain}
 use Rattle.tp_store.specs.declared.body.Job.{Job}
@@ -30,6 +30,27 @@ form_of (cell.Var v) = Variable
 form_of (cell.Int value) = Integer
 form_of (cell.Atom name) = Plain
 form_of (cell.Comp name first count) = compound_form name first count
+
+-- Whether memory may be taken to find a term's body: a variable is called, and of two goals that are joined both bodies
+-- are found.
+abbrev pub asks_memory : Term → Bool
+asks_memory (Var v) = true
+asks_memory (Comp f (More a (More b NoMore))) = joins_goals f
+asks_memory t = false
+
+-- a goal's own place was found, and nothing was added
+pub record IsOwn (old new : Contents) (goal : Ref) (found : Option Ref) : Type 0 where
+  pub place : found ≡ Some goal
+  pub same : new ≡ old
+
+-- a goal that is its own body is found at its own place, and nothing was added
+abbrev pub KeepsOwn : Contents → Contents → Ref → Option Ref → Type 0
+KeepsOwn old new goal found =
+    (names : List Name) → IsTable names → AreNamed (length names) old.cells → body (seen names old goal.at) ≡ Some (seen names old goal.at) → IsOwn old new goal found
+
+-- want of memory comes only where memory may be taken to find the goal's body
+abbrev pub AsksMemory : Contents → Ref → Type 0
+AsksMemory c goal = (names : List Name) → IsTable names → AreNamed (length names) c.cells → asks_memory (seen names c goal.at) ≡ true
 
 -- the compound of a name and two terms
 abbrev pub pair_of : Name → Term → Term → Term
@@ -72,6 +93,13 @@ AreJobsNamed n [] = Unit {0}
 AreJobsNamed n (Convert at ∷ jobs) = AreJobsNamed n jobs
 AreJobsNamed n (Join at name left right ∷ jobs) = (name.at < n) × AreJobsNamed n jobs
 
+-- Each goal of the jobs is its own body, and when two are joined, the newest bodies are the goals' own places: then the
+-- root's own place is left.
+abbrev pub AreOwn : List Name → Contents → Ref → List Job → List Ref → Type 0
+AreOwn names c root [] made = made ≡ root ∷ []
+AreOwn names c root (Convert at ∷ jobs) made = (body (seen names c at.at) ≡ Some (seen names c at.at)) × AreOwn names c root jobs (at ∷ made)
+AreOwn names c root (Join at name left right ∷ jobs) made = (rest : List Ref) × (made ≡ right ∷ left ∷ rest) × AreOwn names c root jobs (at ∷ rest)
+
 -- how much is left to do
 abbrev pub jobs_size : Contents → List Job → ℕ
 jobs_size c [] = 0
@@ -85,6 +113,7 @@ pub record Goes (c : Contents) (jobs : List Job) (made : List Ref) (c' : Content
   pub within : AreIn c'.cells made'
   pub named : (n : ℕ) → CALL.at < n → AreNamed n c.cells → AreJobsNamed n jobs → AreNamed n c'.cells × AreJobsNamed n jobs'
   pub same : (names : List Name) → IsTable names → AreNamed (length names) c.cells → AreJobsNamed (length names) jobs → bodies_by names c' jobs' (seen_each names c' made') ≡ bodies_by names c jobs (seen_each names c made)
+  pub own : (names : List Name) → IsTable names → AreNamed (length names) c.cells → (root : Ref) → AreOwn names c root jobs made → (c' ≡ c) × AreOwn names c' root jobs' made'
 
 -- a goal was looked at: it has no body, or less is left to do
 abbrev pub Looked : Bool → Contents → Ref → List Job → List Ref → Contents → List Job → List Ref → Type 0

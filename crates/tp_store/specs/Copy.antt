@@ -1,8 +1,8 @@
 -- Copies of terms: what is left to do, and what that makes.
-use Rattle.std.specs.Prelude.{◌≡◌, ℕ, zero, suc, ◌+◌, ◌<◌, true, List, [], ◌∷◌, ◌++◌, length, take, drop}
+use Rattle.std.specs.Prelude.{◌≡◌, ℕ, zero, suc, ◌+◌, ◌<◌, ◌≤◌, true, List, [], ◌∷◌, ◌++◌, length, take, drop}
 use Rattle.tp_terms.specs.declared.cells.Cell.{Cell}
 use Rattle.tp_terms.specs.declared.cells.Cell.TheVariants as cell
-use Rattle.tp_terms.specs.Term.{Name, Term, Comp, occurs, terms_of}
+use Rattle.tp_terms.specs.Term.{Name, Term, Comp, occurs, term_size, terms_of}
 use Rattle.tp_terms.specs.Shown.{name_at, shows, StandsBefore}
 use Rattle.tp_meaning.specs.Clauses.{renamed}
 use Rattle.tp_store.specs.declared.copy.Task.{Task}
@@ -12,6 +12,12 @@ use Rattle.tp_store.specs.Contents.{IsNumbered}
 -- each variable of the term has a number that was claimed, once it is numbered on from the base
 abbrev pub IsClaimed : List Cell → ℕ → ℕ → ℕ → Type 0
 IsClaimed from at base vars = (v : ℕ) → occurs v (shows [] from at) ≡ true → v + base < vars
+
+-- The last cell is a term's own, and no more cells were added than the term has variables, integers, atoms and
+-- compounds.
+pub record IsLast (old new : List Cell) (t : Term) (at : ℕ) : Type 0 where
+  pub last : at + 1 ≡ length new
+  pub few : length new ≤ length old + term_size t
 
 -- copies of so many adjacent places, the last one first
 abbrev pub copies : ℕ → ℕ → List Task

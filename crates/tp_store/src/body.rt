@@ -1,6 +1,6 @@
 //! Bodies of goals: a list of jobs in place of recursion.
 
-ghost use Rattle.std.specs.Prelude.{◌≡◌, ℕ, ◌+◌, ◌<◌, ◌≤◌, ◌^◌, List, ◌∷◌, length, reverse, IfOk, IfSome, IfNone, OnOk, OnErr, option_map};
+ghost use Rattle.std.specs.Prelude.{◌≡◌, ℕ, ◌+◌, ◌<◌, ◌≤◌, ◌^◌, List, ◌∷◌, length, reverse, Ok, IfOk, IfSome, IfNone, OnOk, OnErr, option_map};
 ghost use Rattle.tp_terms.specs.Names.{IsTable};
 ghost use Rattle.tp_terms.specs.Term.{Name, Comp, More, NoMore};
 ghost use Rattle.tp_terms.specs.Shown.{AreNamed, name_at};
@@ -8,7 +8,7 @@ ghost use Rattle.tp_meaning.specs.Body.{body};
 ghost use Rattle.tp_store.specs.Contents.{AddsCells, seen};
 ghost use Rattle.tp_store.specs.Chain.{IsChains, contents_of};
 ghost use Rattle.tp_store.specs.Work.{AreIn};
-ghost use Rattle.tp_store.specs.Bodies.{AreJobs, Goes, IsPair, Looked, compound_form, form_of, joins, pair_of};
+ghost use Rattle.tp_store.specs.Bodies.{AreJobs, AsksMemory, Goes, IsPair, KeepsOwn, Looked, compound_form, form_of, joins, pair_of};
 
 use crate::chains::Chains;
 use std::alloc::Global;
@@ -136,6 +136,7 @@ fn rejoined(
     ensures adds { AddsCells (contents_of chains.old) (contents_of chains.new) }
     ensures place { IfOk result (λ at. at.at < length chains.new.cells.items) }
     ensures shown { IfOk result (λ at. (names : List Name) → seen names (contents_of chains.new) at.at ≡ pair_of (name_at names name.at) (seen names (contents_of chains.old) bodies.0.at) (seen names (contents_of chains.old) bodies.1.at)) }
+    ensures own { bodies ≡ goals → (contents_of chains.new ≡ contents_of chains.old) × (result ≡ Ok at) }
     ensures named { OnOk result ((n : ℕ) → name.at < n → AreNamed n chains.old.cells.items → AreNamed n chains.new.cells.items) }
 {
     if bodies.0.at == goals.0.at && bodies.1.at == goals.1.at {
@@ -237,6 +238,7 @@ fn convert(chains: &mut Chains, alloc: Global, goal: Ref) -> Result<Option<Ref>,
     ensures adds { AddsCells (contents_of chains.old) (contents_of chains.new) }
     ensures body { IfOk result (λ found. (names : List Name) → IsTable names → AreNamed (length names) chains.old.cells.items →
         option_map (λ at. seen names (contents_of chains.new) at.at) found ≡ body (seen names (contents_of chains.old) goal.at)) }
+    ensures own { IfOk result (KeepsOwn (contents_of chains.old) (contents_of chains.new) goal) }
     ensures place { IfOk result (λ found. IfSome found (λ at. at.at < length chains.new.cells.items)) }
     ensures named { IfOk result (λ found. IfSome found (λ at. (n : ℕ) → CALL.at < n → AreNamed n chains.old.cells.items → AreNamed n chains.new.cells.items)) }
 {
@@ -270,6 +272,7 @@ fn converted(chains: &mut Chains, alloc: Global, goal: Ref) -> Result<Option<Ref
     ensures adds { AddsCells (contents_of chains.old) (contents_of chains.new) }
     ensures body { IfOk result (λ found. (names : List Name) → IsTable names → AreNamed (length names) chains.old.cells.items →
         option_map (λ at. seen names (contents_of chains.new) at.at) found ≡ body (seen names (contents_of chains.old) goal.at)) }
+    ensures own { IfOk result (KeepsOwn (contents_of chains.old) (contents_of chains.new) goal) }
     ensures place { IfOk result (λ found. IfSome found (λ at. at.at < length chains.new.cells.items)) }
     ensures named { OnOk result ((n : ℕ) → CALL.at < n → AreNamed n chains.old.cells.items → AreNamed n chains.new.cells.items) }
     ensures none { IfOk result (λ found. IfNone found (contents_of chains.new ≡ contents_of chains.old)) }
@@ -290,7 +293,7 @@ fn converted(chains: &mut Chains, alloc: Global, goal: Ref) -> Result<Option<Ref
 }
 
 /// A place for the body of a goal, where it has one. Where there is none, and where memory is refused,
-/// no cell was added.
+/// no cell was added. A goal that is its own body stays where it is.
 pub fn body_of(chains: &mut Chains, alloc: Global, goal: Ref) -> Result<Option<Ref>, NoMemory>
     requires chains { IsChains chains.old }
     requires goal { goal.at < length chains.old.cells.items }
@@ -298,13 +301,16 @@ pub fn body_of(chains: &mut Chains, alloc: Global, goal: Ref) -> Result<Option<R
     ensures adds { AddsCells (contents_of chains.old) (contents_of chains.new) }
     ensures body { IfOk result (λ found. (names : List Name) → IsTable names → AreNamed (length names) chains.old.cells.items →
         option_map (λ at. seen names (contents_of chains.new) at.at) found ≡ body (seen names (contents_of chains.old) goal.at)) }
+    ensures own { IfOk result (KeepsOwn (contents_of chains.old) (contents_of chains.new) goal) }
     ensures place { IfOk result (λ found. IfSome found (λ at. at.at < length chains.new.cells.items)) }
     ensures named { OnOk result ((n : ℕ) → CALL.at < n → AreNamed n chains.old.cells.items → AreNamed n chains.new.cells.items) }
     ensures none { IfOk result (λ found. IfNone found (contents_of chains.new ≡ contents_of chains.old)) }
     ensures err { OnErr result (contents_of chains.new ≡ contents_of chains.old) }
+    ensures memory { OnErr result (AsksMemory (contents_of chains.old) goal) }
 {
     match as_goal(chains.end(goal).cell) {
         Form::Plain => Ok(Some(goal)),
+        Form::Integer => Ok(None),
         _ => converted(chains, alloc, goal),
     }
 }

@@ -1,12 +1,12 @@
 //! Copies of terms: a list of tasks in place of recursion.
 
-ghost use Rattle.std.specs.Prelude.{◌≡◌, ℕ, ◌+◌, ◌<◌, ◌≤◌, ◌^◌, List, ◌∷◌, ◌++◌, length, take, drop, reverse, OnOk, OnErr, IfOk};
+ghost use Rattle.std.specs.Prelude.{◌≡◌, ℕ, ◌+◌, ◌<◌, ◌≤◌, ◌^◌, List, [], ◌∷◌, ◌++◌, length, take, drop, reverse, OnOk, OnErr, IfOk};
 ghost use Rattle.tp_terms.specs.Term.{Name};
 ghost use Rattle.tp_terms.specs.Shown.{AreNamed, shows};
 ghost use Rattle.tp_meaning.specs.Clauses.{renamed};
 ghost use Rattle.tp_store.specs.Contents.{AddsCells};
 ghost use Rattle.tp_store.specs.Chain.{IsChains, contents_of};
-ghost use Rattle.tp_store.specs.Copy.{AreReady, IsClaimed, copies, looked_at};
+ghost use Rattle.tp_store.specs.Copy.{AreReady, IsClaimed, IsLast, copies, looked_at};
 
 use crate::chains::Chains;
 use std::alloc::Global;
@@ -99,6 +99,7 @@ fn copy(
     ensures adds { AddsCells (contents_of chains.old) (contents_of chains.new) }
     ensures place { IfOk result (λ at. at.at < length chains.new.cells.items) }
     ensures shown { IfOk result (λ at. (names : List Name) → shows names chains.new.cells.items at.at ≡ renamed base (shows names from.now.items root.at)) }
+    ensures last { IfOk result (λ at. IsLast chains.old.cells.items chains.new.cells.items (shows [] from.now.items root.at) at.at) }
     ensures named { OnOk result ((n : ℕ) → AreNamed n from.now.items → AreNamed n chains.old.cells.items → AreNamed n chains.new.cells.items) }
 {
     let mut tasks = Vec::new(alloc);
@@ -130,6 +131,7 @@ pub fn instance(
     ensures adds { AddsCells (contents_of chains.old) (contents_of chains.new) }
     ensures place { IfOk result (λ at. at.at < length chains.new.cells.items) }
     ensures shown { IfOk result (λ at. (names : List Name) → shows names chains.new.cells.items at.at ≡ renamed base (shows names from.now.items root.at)) }
+    ensures last { IfOk result (λ at. IsLast chains.old.cells.items chains.new.cells.items (shows [] from.now.items root.at) at.at) }
     ensures named { OnOk result ((n : ℕ) → AreNamed n from.now.items → AreNamed n chains.old.cells.items → AreNamed n chains.new.cells.items) }
     ensures err { OnErr result (contents_of chains.new ≡ contents_of chains.old) }
 {

@@ -9,7 +9,8 @@ ghost use Rattle.tp_meaning.specs.Body.{body};
 ghost use Rattle.tp_meaning.specs.Clauses.{renamed};
 ghost use Rattle.tp_meaning.specs.Subst.{mgu};
 ghost use Rattle.tp_store.specs.Contents.{AddsCells, AddsPairs, IsStore, Names, IsNumbered, IsUnbound, CanGoBack, Keeps, cut_to_mark, with_cell, with_vars, seen, seen_cell, subst_of};
-ghost use Rattle.tp_store.specs.Copy.{IsClaimed};
+ghost use Rattle.tp_store.specs.Copy.{IsClaimed, IsLast};
+ghost use Rattle.tp_store.specs.Bodies.{AsksMemory, KeepsOwn};
 
 use crate::body::body_of;
 use crate::chains::Chains;
@@ -101,6 +102,7 @@ impl Store {
         ensures keeps { Keeps self.old self.new }
         ensures place { IfOk result (λ at. at.at < length self.new.cells) }
         ensures shown { IfOk result (λ at. (names : List Name) → shows names self.new.cells at.at ≡ renamed base (shows names from.now.items root.at)) }
+        ensures last { IfOk result (λ at. IsLast self.old.cells self.new.cells (shows [] from.now.items root.at) at.at) }
         ensures err { OnErr result (self.new ≡ self.old) }
         ensures store { IsStore self.new }
 
@@ -173,10 +175,10 @@ impl Store {
     /// A place for the body of a goal, which is seen under the bindings: a variable is called. In `,`,
     /// `;` and `->` with two goals both are bodies in their turn, and every other goal is its own body
     /// (ISO/IEC 13211-1, clause 7.6.2). None exactly where it has no body: an integer stands where a
-    /// goal should. Where nothing is converted, the place is the goal's own, and no cell is added.
+    /// goal should. A goal that is its own body stays at its place, and no cell is added.
     ///
-    /// Answers `NoMemory` where the memory for it isn't had. The store is as before then, and where
-    /// there is no body.
+    /// Answers `NoMemory` where the memory for it isn't had, and only for a variable and for two goals
+    /// that are joined. The store is as before then, and where there is no body.
     pub fn body(&mut self, goal: Ref) -> Result<Option<Ref>, NoMemory>
         requires { goal.at < length self.old.cells }
 
@@ -184,6 +186,8 @@ impl Store {
         // atom of the cells.
         ensures body { IfOk result (λ found. (names : List Name) → IsTable names → AreNamed (length names) self.old.cells →
             option_map (λ at. seen names self.new at.at) found ≡ body (seen names self.old goal.at)) }
+        ensures own { IfOk result (KeepsOwn self.old self.new goal) }
+        ensures memory { OnErr result (AsksMemory self.old goal) }
         ensures place { IfOk result (λ found. IfSome found (λ at. at.at < length self.new.cells)) }
         ensures adds { AddsCells self.old self.new }
         ensures keeps { Keeps self.old self.new }

@@ -54,6 +54,11 @@ slice_get-name_at names at h = slice_get-get_or names at [] h
 pub with_name-present : (names : List Name) (at : ℕ) (name : Name) → slice_get names at ≡ Some name → with_name names name ≡ names
 with_name-present names at name e = ap (λ b. names ++ (if b then [] else name ∷ [])) (list_any-at (names_eq name) names at name e (names_eq-same name)) ∙ append-nil names
 
+-- and its place is the one that it had
+pub known_place : (old new : List Name) (name : Name) → AreDistinct old → new ≡ with_name old name → (now at : ℕ) → slice_get new now ≡ Some name → slice_get old at ≡ Some name → now ≡ at
+known_place old new name d e now at f g =
+    d now at name (ap (λ l. slice_get l now) (sym (e ∙ with_name-present old at name g)) ∙ f) g
+
 -- the table only grows
 pub Grows-with_name : (names : List Name) (name : Name) → Grows names (with_name names name)
 Grows-with_name names name = record { more = (if list_any (names_eq name) names then [] else name ∷ []); added = refl }
@@ -182,3 +187,7 @@ inserted-names texts owned = by (list_any (string_eq owned) texts) refl
         by_case : (b : Bool) → list_any (names_eq (chars (string_bytes owned))) (names_of texts) ≡ b → names_of (if b then texts else texts ++ owned ∷ []) ≡ with_name (names_of texts) (chars (string_bytes owned))
         by_case true f = sym (append-nil (names_of texts)) ∙ sym (ap (λ t. names_of texts ++ (if t then [] else chars (string_bytes owned) ∷ [])) f)
         by_case false f = map-append (λ (t : String Global). chars (string_bytes t)) texts (owned ∷ []) ∙ sym (ap (λ t. names_of texts ++ (if t then [] else chars (string_bytes owned) ∷ [])) f)
+
+-- where no text equals the bytes, their name isn't there
+pub not_found : (texts : Texts) (bytes : List ℕ) → IsUtf8 bytes → list_any (λ text. bytes_eq bytes (string_bytes text)) texts ≡ false → (at : ℕ) → ¬ (slice_get (names_of texts) at ≡ Some (chars bytes))
+not_found texts bytes u none = absent (names_of texts) (chars bytes) (sym (list_any-names_of texts bytes u) ∙ none)

@@ -1,6 +1,7 @@
 -- The names of the start: they are a table, and they stand first in every table.
-use Rattle.std.proofs.Common.{◌≡◌, ℕ, zero, suc, ◌<◌, nat_eq, Bool, true, false, not, ◌&&◌, List, [], ◌∷◌, Some, length, take, drop, map, slice_get, refl, sym, ap, subst, ◌∙◌, true≢false, arith, length-take}
+use Rattle.std.proofs.Common.{◌≡◌, ℕ, zero, suc, ◌<◌, nat_eq, Bool, true, not, ◌&&◌, List, [], ◌∷◌, Some, length, take, drop, map, slice_get, refl, sym, ap, subst, ◌∙◌, true≢false, arith, length-take}
 use Rattle.std.proofs.lemmas.List.{take-append-drop, take_all}
+use Rattle.std.proofs.lemmas.Bool.{and_parts}
 use Rattle.std.proofs.lemmas.Option.{slice_get_within, same_Some}
 use Rattle.std.specs.List.{list_any, list_all}
 use Rattle.std.specs.Str.{chars, all_scalars}
@@ -28,10 +29,6 @@ all_apart : List Name → Bool
 all_apart [] = true
 all_apart (name ∷ names) = not (list_any (names_eq name) names) && all_apart names
 
-both : (a b : Bool) → (a && b) ≡ true → (a ≡ true) × (b ≡ true)
-both true b e = (refl, e)
-both false b e = absurd (true≢false (sym e))
-
 once : (name : Name) (names : List Name) (at : ℕ) → not (list_any (names_eq name) names) ≡ true → ¬ (slice_get names at ≡ Some name)
 once name names at test e = true≢false (sym test ∙ ap not (list_any-at (names_eq name) names at name e (names_eq-same name)))
 
@@ -39,14 +36,14 @@ distinct-from_test : (names : List Name) → all_apart names ≡ true → AreDis
 unfolding all_apart
 distinct-from_test [] h i j x e f = cc
 distinct-from_test (name ∷ names) h zero zero x e f = refl
-distinct-from_test (name ∷ names) h zero (suc j) x e f = absurd (once name names j (both _ _ h).0 (f ∙ sym e))
-distinct-from_test (name ∷ names) h (suc i) zero x e f = absurd (once name names i (both _ _ h).0 (e ∙ sym f))
-distinct-from_test (name ∷ names) h (suc i) (suc j) x e f = ap suc (distinct-from_test names (both _ _ h).1 i j x e f)
+distinct-from_test (name ∷ names) h zero (suc j) x e f = absurd (once name names j (and_parts _ _ h).0 (f ∙ sym e))
+distinct-from_test (name ∷ names) h (suc i) zero x e f = absurd (once name names i (and_parts _ _ h).0 (e ∙ sym f))
+distinct-from_test (name ∷ names) h (suc i) (suc j) x e f = ap suc (distinct-from_test names (and_parts _ _ h).1 i j x e f)
 
 texts-from_test : (names : List Name) → list_all all_scalars names ≡ true → AreTexts names
 texts-from_test [] h at x e = cc
-texts-from_test (name ∷ names) h zero x e = ap all_scalars (sym (same_Some name x e)) ∙ (both _ _ h).0
-texts-from_test (name ∷ names) h (suc at) x e = texts-from_test names (both _ _ h).1 at x e
+texts-from_test (name ∷ names) h zero x e = ap all_scalars (sym (same_Some name x e)) ∙ (and_parts _ _ h).0
+texts-from_test (name ∷ names) h (suc at) x e = texts-from_test names (and_parts _ _ h).1 at x e
 
 start-apart : all_apart start_names ≡ true
 unfolding start_names all_apart

@@ -2,9 +2,9 @@
 use Rattle.std.proofs.Common.{◌≡◌, ℕ, Bool, true, false, List, refl, sym, ap, ◌∙◌}
 use Rattle.std.proofs.lemmas.Bool.Decides.{same_from_decides, not_from_Decides}
 use Rattle.std.proofs.lemmas.Slice.Eq.{bytes_eq-Decides}
-use Rattle.std.proofs.lemmas.Str.{encodes-chars, chars-encodes}
+use Rattle.std.proofs.lemmas.Str.{encodes-chars}
 use Rattle.std.specs.Bool.{Decides}
-use Rattle.std.specs.Str.{IsUtf8, chars, bytes_eq, encode_utf8_all, all_scalars}
+use Rattle.std.specs.Str.{IsUtf8, chars, bytes_eq, encode_utf8_all}
 use Rattle.tp_terms.specs.Term.{Name, names_eq}
 
 -- `names_eq` decides equality
@@ -27,9 +27,6 @@ names_eq-apart a b apart = by (names_eq a b) refl
     by false e = e
     by true e = absurd (apart (names_eq-true a b e))
 
-pub names_eq-symmetric : (a b : Name) → names_eq a b ≡ names_eq b a
-names_eq-symmetric a b = same_from_decides (names_eq a b) (names_eq b a) (bytes_eq-Decides a b) ((λ e. sym (names_eq-true b a e)), (λ e. (bytes_eq-Decides b a).1 (sym e)))
-
 -- two texts have the same bytes exactly where they have the same characters
 pub same_bytes : (a b : List ℕ) → IsUtf8 a → IsUtf8 b → chars a ≡ chars b → a ≡ b
 same_bytes a b u v e = sym (encodes-chars a u) ∙ ap encode_utf8_all e ∙ encodes-chars b v
@@ -43,9 +40,6 @@ names_eq-chars a b u v =
     ((λ e. same_bytes a b u v (names_eq-true (chars a) (chars b) e)), (λ e. (bytes_eq-Decides (chars a) (chars b)).1 (same_chars a b e)))
     (bytes_eq-Decides a b)
 
--- a name that has characters is that of its bytes, and a text is the bytes of its name
-pub chars-bytes : (name : Name) → all_scalars name ≡ true → chars (encode_utf8_all name) ≡ name
-chars-bytes name h = chars-encodes name h
-
+-- a text is the bytes of its name
 pub bytes-chars : (text : List ℕ) (name : Name) → IsUtf8 text → chars text ≡ name → text ≡ encode_utf8_all name
 bytes-chars text name u e = sym (encodes-chars text u) ∙ ap encode_utf8_all e

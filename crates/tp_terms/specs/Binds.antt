@@ -23,7 +23,8 @@ pub record LeadsAtOnce (bindings : Bindings) (cells : List Cell) (v w : ℕ) : T
 -- bindings followed, one variable leads to the other in one or more steps
 pub data Leads (bindings : Bindings) (cells : List Cell) : ℕ → ℕ → Type 0 where
   at_once : {v w : ℕ} → LeadsAtOnce bindings cells v w → Leads bindings cells v w
-  over : {u v w : ℕ} → LeadsAtOnce bindings cells u v → Leads bindings cells v w → Leads bindings cells u w
+  over : {u v w : ℕ} →
+      LeadsAtOnce bindings cells u v → Leads bindings cells v w → Leads bindings cells u w
 
 -- each place is one of the cells, and no variable leads back to itself
 pub record Fits (bindings : Bindings) (cells : List Cell) : Type 0 where

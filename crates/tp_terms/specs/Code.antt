@@ -62,12 +62,16 @@ mutual
   made-nodes (Atom a) rest = refl
   made-nodes (Comp f ts) rest = ap (compound f) (made-all_nodes ts rest)
 
-  pub made-all_nodes : (ts : Terms) (rest : List Node) → made_of (all_nodes ts rest) ≡ inr ts ∷ made_of rest
+  pub made-all_nodes : (ts : Terms) (rest : List Node) →
+      made_of (all_nodes ts rest) ≡ inr ts ∷ made_of rest
   made-all_nodes NoMore rest = refl
-  made-all_nodes (More t ts) rest = ap more_of (made-nodes t (all_nodes ts rest) ∙ ap (λ m. inl t ∷ m) (made-all_nodes ts rest))
+  made-all_nodes (More t ts) rest =
+      ap more_of (made-nodes t (all_nodes ts rest) ∙ ap (λ m. inl t ∷ m) (made-all_nodes ts rest))
 
 pub nodes_back : (t : Term) → term_of_nodes (nodes t []) ≡ t
 nodes_back t = ap first_term (made-nodes t [])
 
 abbrev pub term_code : Coded Term
-term_code = code_by (List Node) (coded_list (coded× coded_ℕ (coded× coded_ℤ (coded_list coded_ℕ)))) (λ t. nodes t []) term_of_nodes nodes_back
+term_code =
+    let nodes_coded = coded_list (coded× coded_ℕ (coded× coded_ℤ (coded_list coded_ℕ))) in
+    code_by (List Node) nodes_coded (λ t. nodes t []) term_of_nodes nodes_back

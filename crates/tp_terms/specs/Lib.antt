@@ -5,3 +5,4 @@ pub mod Contents
 pub mod StartNames
 pub mod Names
 pub mod Binds
+pub mod Added

@@ -21,17 +21,23 @@ with_names names more = fold with_name names more
 
 -- no name stands at two places
 abbrev pub AreDistinct : List Name → Type 0
-AreDistinct names = (i j : ℕ) (name : Name) → slice_get names i ≡ Some name → slice_get names j ≡ Some name → i ≡ j
+AreDistinct names = (i j : ℕ) (name : Name) →
+    slice_get names i ≡ Some name → slice_get names j ≡ Some name → i ≡ j
 
 -- each name is made of characters
 abbrev pub AreTexts : List Name → Type 0
 AreTexts names = (at : ℕ) (name : Name) → slice_get names at ≡ Some name → all_scalars name ≡ true
 
--- a table of names: those of the start come first, no name is there twice, and each is made of characters
+-- a table of names: those of the start come first, no name is there twice, and each is made of
+-- characters
 pub record IsTable (names : List Name) : Type 0 where
   pub begins : take (length start_names) names ≡ start_names
   pub distinct : AreDistinct names
   pub texts : AreTexts names
+
+-- a name is in the table, at this place
+abbrev pub StandsAt : List Name → ℕ → Name → Type 0
+StandsAt names at name = slice_get names at ≡ Some name
 
 -- the new table is the old one with more names behind it
 pub record Grows (old new : List Name) : Type 0 where

@@ -18,7 +18,8 @@ abbrev pub shown_by : List Name → List Term → Cell → Term
 shown_by names ts (cell.Var number) = Var number
 shown_by names ts (cell.Int value) = Int value
 shown_by names ts (cell.Atom name) = Atom (name_at names name.at)
-shown_by names ts (cell.Comp name first count) = Comp (name_at names name.at) (row_at ts first.at count)
+shown_by names ts (cell.Comp name first count) =
+    Comp (name_at names name.at) (row_at ts first.at count)
 
 -- the terms of further cells, behind these terms
 unfoldable pub terms_from : List Name → List Term → List Cell → List Term
@@ -47,14 +48,16 @@ AreBuilt cells = (at : ℕ) (c : Cell) → slice_get cells at ≡ Some c → Sta
 -- the terms of so many places
 abbrev pub args_at : List Name → List Cell → ℕ → ℕ → Terms
 args_at names cells first zero = NoMore
-args_at names cells first (suc n) = More (shows names cells first) (args_at names cells (suc first) n)
+args_at names cells first (suc n) =
+    More (shows names cells first) (args_at names cells (suc first) n)
 
 -- the term of a cell, by what the places of its arguments show
 abbrev pub shown_from : List Name → List Cell → Cell → Term
 shown_from names cells (cell.Var number) = Var number
 shown_from names cells (cell.Int value) = Int value
 shown_from names cells (cell.Atom name) = Atom (name_at names name.at)
-shown_from names cells (cell.Comp name first count) = Comp (name_at names name.at) (args_at names cells first.at count)
+shown_from names cells (cell.Comp name first count) =
+    Comp (name_at names name.at) (args_at names cells first.at count)
 
 -- the cell's atom is one of so many names
 abbrev pub IsNamed : ℕ → Cell → Type 0

@@ -1,8 +1,8 @@
 //! The table of names.
 
-ghost use Rattle.std.specs.Prelude.{◌≡◌, ℕ, ◌<◌, length, slice_get, map, chars, encode_utf8_all, Some, IfOk, OnOk, OnErr};
+ghost use Rattle.std.specs.Prelude.{◌≡◌, ℕ, ◌<◌, length, slice_get, map, chars, encode_utf8_all, IsOk, IsOkAnd, IfOk, OnOk, OnErr};
 ghost use Rattle.tp_terms.specs.Shown.{name_at};
-ghost use Rattle.tp_terms.specs.Names.{names_of, with_name, with_names, IsTable, Grows};
+ghost use Rattle.tp_terms.specs.Names.{names_of, with_name, with_names, IsTable, StandsAt, Grows};
 ghost use Rattle.tp_terms.specs.StartNames.{start_names};
 
 use crate::NoMemory;
@@ -34,7 +34,8 @@ impl Model for Atoms {
 impl Atoms {
     /// The table of the start: the names of `symbols`, and no other.
     ///
-    /// Answers `NoMemory` where the memory for it isn't had.
+    /// # Errors
+    /// `NoMemory` where memory was refused.
     pub fn start(alloc: Global) -> Result<Atoms, NoMemory>
         ensures names { IfOk result (λ atoms. atoms ≡ start_names) }
         ensures table { IfOk result IsTable }
@@ -44,32 +45,40 @@ impl Atoms {
         Ok(Atoms { names })
     }
 
-    /// The one place of a name. A name that isn't in the table is added at its end.
+    /// The one place of a name. A name that isn't in the table is added at its end; one that is
+    /// there takes no memory.
     ///
-    /// Answers `NoMemory` where the memory for it isn't had, and then the table is as before.
+    /// # Errors
+    /// `NoMemory` where memory for a new name was refused, and then the table is as before.
     pub fn intern(&mut self, name: &str) -> Result<AtomId, NoMemory>
-        ensures place { IfOk result (λ atom. slice_get self.new atom.at ≡ Some (chars name.now)) }
+        ensures place { IfOk result (λ atom. StandsAt self.new atom.at (chars name.now)) }
         ensures names { OnOk result (self.new ≡ with_name self.old (chars name.now)) }
-        ensures keeps { (at : ℕ) → at < length self.old → slice_get self.new at ≡ slice_get self.old at }
+        ensures keeps { (at : ℕ) → at < length self.old →
+            slice_get self.new at ≡ slice_get self.old at }
         ensures grows { Grows self.old self.new }
         ensures table { IsTable self.new }
         ensures err { OnErr result (self.new ≡ self.old) }
+
+        // A name that is there needs no memory: its place is answered, and the table stays.
+        ensures known { (at : ℕ) → StandsAt self.old at (chars name.now) →
+            IsOkAnd result (λ atom. atom.at ≡ at) }
+        ensures stays { (at : ℕ) → StandsAt self.old at (chars name.now) → self.new ≡ self.old }
     {
         let at = find_or_add(&mut self.names, name)?;
         Ok(AtomId { at })
     }
 
-    /// The name of an atom.
+    /// The name of an atom. Takes no memory.
     pub fn name(&self, atom: AtomId) -> &str
         requires { atom.at < length self.now }
-        ensures name { slice_get self.now atom.at ≡ Some (chars result.now) }
+        ensures name { StandsAt self.now atom.at (chars result.now) }
         ensures bytes { result.now ≡ encode_utf8_all (name_at self.now atom.at) }
         ensures table { IsTable self.now }
     {
         self.names[atom.at].as_str()
     }
 
-    /// The number of names.
+    /// The number of names. Takes no memory.
     pub fn len(&self) -> usize
         ensures len { result ≡ length self.now }
         ensures table { IsTable self.now }
@@ -80,9 +89,12 @@ impl Atoms {
 
 /// The place of a name, which is added behind the others where it isn't there.
 fn find_or_add(names: &mut IndexSet<String>, name: &str) -> Result<usize, NoMemory>
-    ensures place { IfOk result (λ at. slice_get (names_of names.new.keys) at ≡ Some (chars name.now)) }
-    ensures names { OnOk result (names_of names.new.keys ≡ with_name (names_of names.old.keys) (chars name.now)) }
+    ensures place { IfOk result (λ at. StandsAt (names_of names.new.keys) at (chars name.now)) }
+    ensures names { let added = with_name (names_of names.old.keys) (chars name.now) in
+        OnOk result (names_of names.new.keys ≡ added) }
     ensures err { OnErr result (names_of names.new.keys ≡ names_of names.old.keys) }
+    ensures known { (at : ℕ) → StandsAt (names_of names.old.keys) at (chars name.now) →
+        IsOk result }
 {
     if let Some(at) = names.get_index_of(name) {
         return Ok(at);

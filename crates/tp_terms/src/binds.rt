@@ -5,12 +5,13 @@ ghost use Rattle.tp_terms.specs.Binds.{Bindings, bound_in};
 
 use crate::cells::Ref;
 
-/// A finite map from the numbers of variables to places, with no statement on whose places they are:
-/// that is said by `Fits` of specs/Binds.antt.
+/// A finite map from the numbers of variables to places. Whose places they are isn't said here:
+/// `Fits` of specs/Binds.antt says it.
 pub trait Binds {
     ghost bindings: { Self → Bindings };
 
-    /// The place that a variable is bound to, and `None` exactly where it is unbound.
+    /// The place that a variable is bound to, and `None` exactly where it is unbound. Takes no
+    /// memory.
     fn bound(&self, number: u64) -> Option<Ref>
         ensures { result ≡ bound_in (bindings self.now) number };
 }

@@ -31,7 +31,8 @@ pub enum Cell {
     Int(i64),
     /// An atom, by the place of its name.
     Atom(AtomId),
-    /// A compound term: the place of its name, and as arguments `count` adjacent cells from `first`.
+    /// A compound term: the place of its name, and as arguments `count` adjacent cells from
+    /// `first`.
     Comp {
         /// The place of the name.
         name: AtomId,
@@ -42,7 +43,8 @@ pub enum Cell {
     },
 }
 
-/// Terms in adjacent cells, each of which shows one term. The arguments of a compound stand before it.
+/// Terms in adjacent cells, each of which shows one term. The arguments of a compound stand before
+/// it.
 #[derive(Drop)]
 pub struct Cells {
     cells: Vec<Cell>,
@@ -57,13 +59,16 @@ impl Model for Cells {
 
     ghost use Rattle.tp_terms.specs.Shown.{AreBuilt};
 
-    ghost view = { λ c. record { items = c.cells.items; room = vec_capacity c.cells - vec_len c.cells } };
+    ghost view = { λ c. record {
+      items = c.cells.items;
+      room = vec_capacity c.cells - vec_len c.cells;
+    } };
 
     ghost invariant = { λ c. AreBuilt c.cells.items };
 }
 
 impl Cells {
-    /// No cells.
+    /// No cells. Takes no memory.
     pub fn new(alloc: Global) -> Self
         ensures { result.items ≡ [] }
     {
@@ -75,7 +80,8 @@ impl Cells {
     /// Adds a cell behind the others and answers its place. No place that stood shows another term
     /// afterwards.
     ///
-    /// Answers `NoMemory` where the memory for it isn't had, and then no cell was added.
+    /// # Errors
+    /// `NoMemory` where memory was refused, and then no cell was added.
     pub fn push(&mut self, cell: Cell) -> Result<Ref, NoMemory>
         requires { StandsBefore (length self.old.items) cell }
         ensures place { IfOk result (λ at. at.at ≡ length self.old.items) }
@@ -95,7 +101,7 @@ impl Cells {
         Ok(Ref { at })
     }
 
-    /// The cell at a place.
+    /// The cell at a place. Takes no memory.
     pub fn get(&self, at: Ref) -> Cell
         requires { at.at < length self.now.items }
         ensures value { slice_get self.now.items at.at ≡ Some result }
@@ -106,7 +112,7 @@ impl Cells {
         self.cells[at.at]
     }
 
-    /// The number of cells.
+    /// The number of cells. Takes no memory.
     pub fn len(&self) -> usize
         ensures value { result ≡ length self.now.items }
         ensures built { AreBuilt self.now.items }
@@ -114,16 +120,17 @@ impl Cells {
         self.cells.len()
     }
 
-    /// Whether there are no cells.
+    /// Whether there are no cells. Takes no memory.
     pub fn is_empty(&self) -> bool
         ensures { IsTrue result ↔ (length self.now.items ≡ 0) }
     {
         self.len() == 0
     }
 
-    /// Makes room for so many pushes, which then can't fail.
+    /// Makes room for so many pushes, which then can't fail. Takes no memory where there is room.
     ///
-    /// Answers `NoMemory` where the memory for it isn't had.
+    /// # Errors
+    /// `NoMemory` where memory was refused, and then the cells stay.
     pub fn reserve(&mut self, more: usize) -> Result<(), NoMemory>
         ensures ok { OnOk result (more ≤ self.new.room) }
         ensures items { self.new.items ≡ self.old.items }

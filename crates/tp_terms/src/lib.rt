@@ -14,7 +14,7 @@ pub use atoms::Atoms;
 pub use binds::{Binds, NoBinds};
 pub use cells::{AtomId, Cell, Cells, Ref};
 use std::alloc::{AllocError, AllocFailed};
-pub use text::{Named, Names, Text};
+pub use text::{Named, Names, Text, push_char, push_text};
 pub use world::{Event, EventKind, ItemId, Proc, Slot, StoreMark};
 
 /// Memory was refused.

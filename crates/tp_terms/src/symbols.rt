@@ -361,7 +361,8 @@ pub const FY: AtomId = AtomId { at: 76 };
 /// The operator type `fx`.
 pub const FX: AtomId = AtomId { at: 77 };
 
-// Words of error terms (ISO/IEC 13211-1, clause 7.12.2; those on processes are of this project alone).
+// Words of error terms (ISO/IEC 13211-1, clause 7.12.2; those on processes are of this project
+// alone).
 
 /// The word `error` of error terms.
 pub const ERROR: AtomId = AtomId { at: 78 };

@@ -1,7 +1,9 @@
 //! Texts and named variables, as contracts can compare them with a definition's value.
 
-ghost use Rattle.std.specs.Prelude.{◌≡◌, chars, encode_utf8_all, string_bytes};
+ghost use Rattle.std.specs.Prelude.{◌≡◌, ◌++◌, [], ◌∷◌, chars, encode_utf8_all, string_bytes, OnErr};
+ghost use Rattle.tp_terms.specs.Added.{Adds};
 
+use crate::NoMemory;
 use std::marker::Model;
 
 /// A text, which contracts see as the list of its characters.
@@ -74,4 +76,28 @@ impl Names {
     {
         self.names.as_slice()
     }
+}
+
+/// Adds a text behind another.
+///
+/// # Errors
+/// `NoMemory` where memory was refused, and then nothing was added.
+pub fn push_text(text: &str, out: &mut String) -> Result<(), NoMemory>
+    ensures added { Adds out.old out.new result (chars text.now) }
+    ensures err { OnErr result (chars (string_bytes out.new) ≡ chars (string_bytes out.old)) }
+{
+    out.push_str(text)?;
+    Ok(())
+}
+
+/// Adds a character behind a text.
+///
+/// # Errors
+/// `NoMemory` where memory was refused, and then nothing was added.
+pub fn push_char(c: char, out: &mut String) -> Result<(), NoMemory>
+    ensures added { Adds out.old out.new result (c ∷ []) }
+    ensures err { OnErr result (chars (string_bytes out.new) ≡ chars (string_bytes out.old)) }
+{
+    out.push(c)?;
+    Ok(())
 }

@@ -10,7 +10,7 @@ use Rattle.tp_parse.specs.Reading.{◌>>=◌, ends_clause, clause_reading}
 use Rattle.tp_parse.specs.Grammar.{Reads}
 use Rattle.tp_parse.specs.Texts.{last_byte, is_ended, found, clause_by, clause_in, clause_of}
 use Rattle.tp_parse.specs.declared.fault.ReadCause.TheVariants as cause
-use Rattle.tp_parse.proofs.GrammarLemmas.{complete}
+use Rattle.tp_parse.proofs.OneReading.Complete.{complete}
 use Rattle.tp_write.specs.Text.{text}
 use Rattle.tp_write.specs.Back.{written_clause, WrittenReadsBack}
 use Rattle.tp_write.proofs.WrittenPieces.{First, Piece, Places, gap, token, laid, spelled, first_spelled, places_in, clause_pieces, end, tree_of}

@@ -5,9 +5,9 @@ ghost use Rattle.tp_terms.specs.Shown.{IsNamed, StandsBefore};
 ghost use Rattle.tp_parse.specs.Ops.{table_of};
 ghost use Rattle.tp_write.specs.Work.{alone_pieces, args_pieces, behind_pieces, compound_pieces, infix_pieces, mark_if, pair_pieces, tail_pieces, term_pieces};
 
-use crate::form::{cell_form, is_closed, is_comma, is_empty_list, is_list_cell, right_bound};
+use crate::form::{cell_form, is_closed, is_comma, is_empty_list, is_list_cell};
 use crate::pieces::{End, Form, Piece, Position};
-use tp_parse::{Op, Ops};
+use tp_parse::{Op, Ops, right_bound};
 use tp_terms::{AtomId, Atoms, Cell, NoMemory, Ref};
 
 /// The place behind this one.

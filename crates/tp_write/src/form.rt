@@ -4,12 +4,11 @@ ghost use Rattle.std.specs.Prelude.{◌≡◌, ◌<◌, length, codes};
 ghost use Rattle.tp_terms.specs.Term.{names_eq};
 ghost use Rattle.tp_terms.specs.Shown.{IsNamed, name_at};
 ghost use Rattle.tp_parse.specs.Ops.{table_of};
-ghost use Rattle.tp_parse.specs.Table.{left_bound, right_bound};
 ghost use Rattle.tp_write.specs.Text.{binary_form, may_stand_left, priority_by, unary_form};
 ghost use Rattle.tp_write.specs.Work.{cell_closed, cell_form, is_operator, is_operator_cell};
 
 use crate::pieces::{Form, Position};
-use tp_parse::{Op, OpType, Ops};
+use tp_parse::{OpType, Ops, left_bound};
 use tp_terms::{AtomId, Atoms, Cell};
 
 /// Whether this is the name of list cells.
@@ -94,27 +93,6 @@ fn priority(form: Form) -> u16
     match form {
         Form::Infix(op) | Form::Prefix(op) => op.0,
         _ => 0,
-    }
-}
-
-/// The largest priority of an operator's left operand.
-fn left_bound(op: Op) -> u16
-    ensures { result ≡ left_bound op }
-{
-    match op.1 {
-        OpType::Xfx | OpType::Xfy => op.0.saturating_sub(1),
-        OpType::Yfx => op.0,
-        OpType::Fy | OpType::Fx => 0,
-    }
-}
-
-/// The largest priority of an operator's right operand.
-pub fn right_bound(op: Op) -> u16
-    ensures { result ≡ right_bound op }
-{
-    match op.1 {
-        OpType::Xfx | OpType::Yfx | OpType::Fx => op.0.saturating_sub(1),
-        OpType::Xfy | OpType::Fy => op.0,
     }
 }
 

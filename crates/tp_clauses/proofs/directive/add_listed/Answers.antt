@@ -1,4 +1,4 @@
-use Rattle.std.proofs.Common.{◌≡◌, ap, ◌∙◌, sym, subst, arith, rules, w64, Some, Err}
+use Rattle.std.proofs.Common.{ap, ◌∙◌, sym, subst, arith, rules, w64, Err}
 use Rattle.std.proofs.lemmas.Result.{err_from_is_err_and}
 use mir.Val.{SFits}
 use Rattle.tp_parse.specs.Table.{add_op}
@@ -31,7 +31,7 @@ names-preserved c =
     record {
       within = (let l = here.1 in let w = c.names.invariant.within in omega arith);
       same =
-          sym (each_step c.args.operators.priority (name_at c.args.atoms.now c.args.operators.kind.at) (name_at c.args.atoms.now c.in-Name.name.at) (listed_names (shows c.args.atoms.now c.args.cells.now.items c.in-Name.behind.at)) (table_of c.names.ops) (table_of c.add_name.new.ops) (grind (arith, ints, c.in_ok-add_name-in-Name.ensures)))
+          sym (each_step c.args.operators.priority (name_at c.args.atoms.now c.args.operators.kind.at) (name_at c.args.atoms.now c.in-Name.name.at) (listed_names (shows c.args.atoms.now c.args.cells.now.items c.in-Name.behind.at)) (table_of c.names.ops) (table_of c.add_name.new.ops) (grind (arith, ints, c.in_ok-add_name-in-Name.ensures.told)))
           ∙ sym (ap (λ o. each_added c.args.operators.priority (name_at c.args.atoms.now c.args.operators.kind.at) o (table_of c.names.ops)) here.0) ∙ c.names.invariant.same;
     }
 
@@ -40,7 +40,7 @@ returns-in_err-add_name-in-Name c =
     let here = subst (Listed c.args.atoms.now c.args.cells.now.items c.names.rest.at) (sym c.in-Name.ensures) (listed c.args.atoms.now c.args.cells.now.items c.requires.names c.requires.built c.names.rest.at c.names.invariant.within) in
     let p = err_from_is_err_and c.from_residual.result c.from_residual.ensures.1 in
     let fits : SFits w64 c.args.operators.priority = search rules in
-    let told = simp to_z-of_z at c.in_err-add_name-in-Name.ensures in
+    let told = simp to_z-of_z at c.in_err-add_name-in-Name.ensures.told in
     let kind = name_at c.args.atoms.now c.args.operators.kind.at in
     told_err (table_of c.add_name.new.ops) (added_or_none (add_op c.args.operators.priority kind (name_at c.args.atoms.now c.in-Name.name.at) (table_of c.names.ops)))
     (each_added c.args.operators.priority kind (listed_names (shows c.args.atoms.now c.args.cells.now.items c.args.operators.names.at)) (table_of c.args.ops.now))

@@ -9,22 +9,22 @@ use Rattle.tp_clauses.proofs.DirectiveLemmas.{lone-named, names_refused, names_a
 use Rattle.tp_clauses.proofs.KindLemmas.{allows-named}
 use Rattle.tp_clauses.proofs.directive.add_names.Goals as goal
 
-pub returns-then-not-allows : goal.returns-then-not-allows
-returns-then-not-allows c =
+pub returns-then-not-allows-clause-told : goal.returns-then-not-allows-clause-told
+returns-then-not-allows-clause-told c =
     names_refused c.args.operators.priority (name_at c.args.atoms.now c.args.operators.kind.at) (op_names (shows c.args.atoms.now c.args.cells.now.items c.args.operators.names.at)) (table_of c.args.ops.now)
     (allows-named c.args.atoms.now (c.requires.names).table c.args.operators.priority c.args.operators.kind c.requires.kind ∙ grind (arith, ints, c.if-not-allows.ensures))
 
 pub add_name-requires-clause-name : goal.add_name-requires-clause-name
 add_name-requires-clause-name c = lone-named c.args.atoms.now c.args.cells.now.items c.requires.names c.args.operators.names.at c.get.result c.in-Some.name c.get.ensures.value (sym c.lone_name.ensures ∙ c.in-Some.is)
 
-pub returns-in-Some : goal.returns-in-Some
-returns-in-Some c =
+pub returns-in-Some-clause-told : goal.returns-in-Some-clause-told
+returns-in-Some-clause-told c =
     let kind = name_at c.args.atoms.now c.args.operators.kind.at in
     let lone : op_names (shows c.args.atoms.now c.args.cells.now.items c.args.operators.names.at) ≡ Some (name_at c.args.atoms.now c.in-Some.name.at ∷ []) =
     op_names-lone c.args.atoms.now c.args.cells.now.items c.requires.names c.requires.built c.args.operators.names.at c.get.result c.get.ensures.value
     ∙ ap (λ o. elim o [ None ↦ listed_names (shows c.args.atoms.now c.args.cells.now.items c.args.operators.names.at) | Some name ↦ Some (name_at c.args.atoms.now name.at ∷ []) ]) (sym c.lone_name.ensures ∙ c.in-Some.is) in
     let fits : SFits w64 c.args.operators.priority = search rules in
-    let told = simp to_z-of_z at c.add_name.ensures in
+    let told = simp to_z-of_z at c.add_name.ensures.told in
     let open_to : allows c.args.operators.priority kind ≡ true = allows-named c.args.atoms.now (c.requires.names).table c.args.operators.priority c.args.operators.kind c.requires.kind ∙ grind (arith, ints, c.if-not-allows.ensures) in
     subst (TellsDirective (table_of c.add_name.new.ops) c.add_name.result)
     (sym (names_allowed c.args.operators.priority kind (op_names (shows c.args.atoms.now c.args.cells.now.items c.args.operators.names.at)) (table_of c.args.ops.now) open_to
@@ -32,8 +32,8 @@ returns-in-Some c =
     ∙ one_added c.args.operators.priority kind (name_at c.args.atoms.now c.in-Some.name.at) (table_of c.args.ops.now)))
     told
 
-pub returns-in-None : goal.returns-in-None
-returns-in-None c =
+pub returns-in-None-clause-told : goal.returns-in-None-clause-told
+returns-in-None-clause-told c =
     let kind = name_at c.args.atoms.now c.args.operators.kind.at in
     let list : op_names (shows c.args.atoms.now c.args.cells.now.items c.args.operators.names.at) ≡ listed_names (shows c.args.atoms.now c.args.cells.now.items c.args.operators.names.at) =
     op_names-lone c.args.atoms.now c.args.cells.now.items c.requires.names c.requires.built c.args.operators.names.at c.get.result c.get.ensures.value

@@ -1,7 +1,9 @@
-use Rattle.std.proofs.Common.{ap, ◌∙◌, sym, subst, refl, arith, ◌<◌, Err}
+use Rattle.std.proofs.Common.{sym, subst, refl, arith, ◌<◌, ℕ, Option, Err}
 use Rattle.std.proofs.lemmas.Str.{IsCharBoundary-start}
 use Rattle.tp_terms.proofs.NameLemmas.{Grows-same, Grows-trans}
-use Rattle.tp_clauses.proofs.LoadLemmas.{most, loading_start, loading_more, loading_none, loading_err, ended_ok, ended_err}
+use Rattle.tp_clauses.proofs.LoadLemmas.{most, loading_start, loading_more, loading_none, loading_err, ended_ok, ended_err, begun_err, begun_memory, loading_memory, fault_same}
+use Rattle.tp_clauses.specs.declared.parts.Parts.{Parts}
+use Rattle.tp_clauses.specs.declared.fault.LoadFault.TheVariants.{NoMemory}
 use Rattle.tp_clauses.proofs.load.load_text.Goals as goal
 
 pub terms-init : goal.terms-init
@@ -30,3 +32,14 @@ returns-in-Ok-end_of-clause-model c = ended_ok c.terms.atoms c.args.text.now c.t
 
 pub returns-in-Err-end_of-clause-model : goal.returns-in-Err-end_of-clause-model
 returns-in-Err-end_of-clause-model c = ended_err c.terms.atoms c.args.text.now c.terms.at c.terms.before c.terms.parts c.terms.invariant.loading (omega (arith, c.terms-test.false, c.terms.auto.before-end, most)) (Unit {0}) 1000001 c.in-Err-end_of.fault (Err c.in-Err-end_of.fault) (omega (arith, most)) refl c.in-Err-end_of.ensures
+
+pub returns-in-Err-clause-model : goal.returns-in-Err-clause-model
+returns-in-Err-clause-model c = begun_err c.args.atoms.now c.args.text.now c.in-Err.fault (Err c.in-Err.fault) c.utf8.text (IsCharBoundary-start c.args.text.now c.utf8.text) refl c.in-Err.ensures
+
+pub returns-in-Err-clause-memory : goal.returns-in-Err-clause-memory
+returns-in-Err-clause-memory c e = begun_memory c.args.text.now c.in-Err.fault c.in-Err.ensures e
+
+pub returns-in-Err-read_next-clause-memory : goal.returns-in-Err-read_next-clause-memory
+returns-in-Err-read_next-clause-memory c e =
+    loading_memory c.terms.atoms c.args.text.now c.terms.at c.terms.before c.terms.parts c.terms.invariant.loading (subst (λ n. c.terms.before < n) (sym most) c.terms-test.true)
+    (c.in-Err-read_next.ensures.memory (fault_same Parts (Option ℕ) c.in-Err-read_next.fault NoMemory e))

@@ -7,8 +7,11 @@ use Rattle.tp_clauses.specs.Told.{outcome}
 use Rattle.tp_clauses.proofs.TermLemmas.{head_refused, refused_rule}
 use Rattle.tp_clauses.proofs.load.take_rule.Goals as goal
 
-pub returns-in-Err : goal.returns-in-Err
-returns-in-Err c = λ names h k.
+pub returns-in-Err-clause-told : goal.returns-in-Err-clause-told
+returns-in-Err-clause-told c = λ names h k.
     ap (λ r. outcome (table_of c.args.parts.now.ops) (OfClause r))
     (refused_rule (shows names c.args.cells.now.items c.args.head.at) (shows names c.args.cells.now.items c.args.body.at) c.args.vars c.in-Err.cause
-    (head_refused names c.args.cells.now.items c.args.head c.in-Err.cause h c.requires.built c.requires.head (sym c.head_key.ensures ∙ c.in-Err.is) c.args.vars (body (shows names c.args.cells.now.items c.args.body.at))))
+    (head_refused names c.args.cells.now.items c.args.head c.in-Err.cause h c.requires.built c.requires.head (sym (c.head_key.ensures.head names h) ∙ c.in-Err.is) c.args.vars (body (shows names c.args.cells.now.items c.args.body.at))))
+
+pub take_body-requires-clause-free : goal.take_body-requires-clause-free
+take_body-requires-clause-free c names h = sym (c.head_key.ensures.head names h) ∙ c.in-Ok.is

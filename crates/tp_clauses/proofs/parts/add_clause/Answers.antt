@@ -1,14 +1,12 @@
-use Rattle.std.proofs.Common.{◌≡◌, ◌++◌, ◌∷◌, [], length, ap, ◌∙◌, sym, arith, refl, if◌then◌else◌}
+use Rattle.std.proofs.Common.{◌≡◌, ◌++◌, ◌∷◌, [], length, ap, ◌∙◌, arith, refl, if◌then◌else◌}
 use Rattle.tp_clauses.specs.Indexed.{ids_in, same_key}
-use Rattle.tp_clauses.specs.Moved.{moved_view}
 use Rattle.tp_clauses.proofs.PartsLemmas.{clause_added, id_at}
 use Rattle.tp_clauses.proofs.parts.add_clause.Goals as goal
 
 pub returns : goal.returns
 returns c =
     let count : c.len.result ≡ length c.args.parts.now.clauses.items = omega (arith, c.len.ensures, c.args.parts.now.clauses.ok.0) in
-    clause_added c.args.parts.now (record { cells = c.append.new.cells; clauses = c.push.new.self; index = c.add.new.self; ops = c.args.parts.now.ops }) c.args.cells.now.items c.args.view c.args.key
-    c.requires.parts c.requires.fits c.requires.key c.in_ok-by.ensures.items
-    (c.in_ok-push.ensures.items ∙ ap (λ v. c.args.parts.now.clauses.items ++ v ∷ []) (c.moved_view.ensures ∙ ap (λ n. moved_view n c.args.view) c.in_ok-by.ensures.by))
+    clause_added c.args.parts.now (record { store = c.args.parts.now.store; clauses = c.push.new.self; index = c.add.new.self; ops = c.args.parts.now.ops }) c.args.view c.args.key
+    c.requires.parts c.requires.fits c.requires.key refl c.in_ok-push.ensures.items
     (λ k. c.in_ok-add.ensures k ∙ ap (λ n. if same_key c.args.key k then ids_in c.args.parts.now.index k ++ id_at n ∷ [] else ids_in c.args.parts.now.index k) count)
-    refl c.in_ok-by.ensures.built
+    refl

@@ -1,5 +1,5 @@
 use Rattle.std.proofs.Common.{sym}
-use Rattle.tp_lex.proofs.NextLemmas.{start-ends, comment-ends, rest-ends, ends-short, next-fails, next-none, next-token, next-broken}
+use Rattle.tp_lex.proofs.StandsBehind.NextToken.{start-ends, comment-ends, rest-ends, ends-short, next-fails, next-none, next-token, next-broken}
 use Rattle.tp_lex.proofs.SuffixLemmas.{ends-trans}
 use Rattle.tp_lex.proofs.TokenLemmas.{given}
 use Rattle.tp_lex.proofs.TokensLemmas.{tokens-next}

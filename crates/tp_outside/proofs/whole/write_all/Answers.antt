@@ -1,6 +1,6 @@
 use Rattle.std.proofs.Common.{◌∙◌, length, arith, length-drop, ap}
 use Rattle.std.proofs.lemmas.List.{take_rest}
-use Rattle.tp_outside.proofs.AddedLemmas.{added-more}
+use Rattle.tp_outside.proofs.WritesWhole.Pieces.{added-more}
 use Rattle.tp_outside.proofs.whole.write_all.Goals as goal
 
 pub loop-done-preserved : goal.loop-done-preserved

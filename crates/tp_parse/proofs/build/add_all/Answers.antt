@@ -1,5 +1,5 @@
 use Rattle.std.proofs.Common.{◌≤◌, length, take, ap, arith, length-append}
-use Rattle.tp_parse.proofs.BuildLemmas.{all-at, before-more}
+use Rattle.tp_parse.proofs.Numbered.Cells.{all-at, before-more}
 use Rattle.tp_parse.proofs.build.add_all.Goals as goal
 
 pub push-requires : goal.push-requires

@@ -1,9 +1,12 @@
 use Rattle.std.proofs.Common.{◌≡◌, ap, sym, ◌∙◌, arith, subst, take}
 use Rattle.std.proofs.lemmas.List.{take_all}
-use Rattle.tp_terms.proofs.NameLemmas.{Grows-trans}
+use Rattle.tp_terms.proofs.NameLemmas.{Grows-same, Grows-trans}
+use Rattle.tp_parse.specs.Numbers.{Numbers}
 use Rattle.tp_parse.specs.Steps.{trees_of}
 use Rattle.tp_parse.specs.Making.{IsMade}
-use Rattle.tp_parse.proofs.BuildLemmas.{ready-at, ready-length, trees-take, built}
+use Rattle.tp_parse.specs.NewNames.{AddsOnly, writes_any}
+use Rattle.tp_parse.proofs.Numbered.NewNames.{AddsOnly-same, names-step}
+use Rattle.tp_parse.proofs.Numbered.Cells.{ready-at, ready-length, trees-take, made-start, built}
 use Rattle.tp_parse.proofs.build.build.Goals as goal
 
 pub take_step-requires-clause-ready : goal.take_step-requires-clause-ready
@@ -22,9 +25,23 @@ loop-step-preserved c =
       made = subst (IsMade c.take_step.new.atoms c.take_step.new.making) (sym (trees-take c.args.text.now c.args.steps.now c.loop-step.step-index _ c.loop-step-test.true)) (r.made _ i.made);
       room = omega arith;
       grows = Grows-trans _ _ _ i.grows r.grows;
+      names = names-step _ _ _ _ _ _ _ (trees-take c.args.text.now c.args.steps.now c.loop-step.step-index _ c.loop-step-test.true) i.names (r.names _);
     }
+
+pub returns-clause-names : goal.returns-clause-names
+returns-clause-names c =
+    let all : take c.loop-step.step-index c.args.steps.now ≡ c.args.steps.now = take_all c.loop-step.step-index c.args.steps.now c.loop-step-test.false in
+    subst (λ s. AddsOnly (λ name. writes_any name (trees_of c.args.text.now s)) c.args.atoms.now c.loop-step.atoms) all c.loop-step.invariant.names
 
 pub returns-clause-built : goal.returns-clause-built
 returns-clause-built c = λ tree e.
     let all : take c.loop-step.step-index c.args.steps.now ≡ c.args.steps.now = take_all c.loop-step.step-index c.args.steps.now c.loop-step-test.false in
     built c.loop-step.atoms c.loop-step.making _ tree c.push.new.self.items c.in_ok-root.root.at _ c.loop-step.invariant.made (ap (trees_of c.args.text.now) all ∙ e) c.index-last.ensures c.in_ok-root.ensures.place c.in_ok-root.ensures.items
+
+pub loop-step-init : goal.loop-step-init
+loop-step-init c = record {
+  made = made-start _ _ c.new.ensures c.new-2.ensures.items c.new-3.ensures;
+  room = let none = ap (λ (n : Numbers). n.vars) c.new-3.ensures in omega arith;
+  grows = Grows-same _;
+  names = AddsOnly-same _ _;
+}

@@ -1,4 +1,4 @@
-use Rattle.tp_parse.proofs.BuildLemmas.{all-take, all-drop}
+use Rattle.tp_parse.proofs.Numbered.Cells.{all-take, all-drop}
 use Rattle.tp_parse.proofs.build.gather.Goals as goal
 
 pub add_all-requires : goal.add_all-requires

@@ -5,7 +5,8 @@ use Rattle.tp_terms.specs.Term.{Var, Int, Atom}
 use Rattle.tp_terms.proofs.NameLemmas.{name_at-slice_get}
 use Rattle.tp_parse.specs.Numbers.{Numbers, number_of}
 use Rattle.tp_parse.specs.Steps.{label_name}
-use Rattle.tp_parse.proofs.BuildLemmas.{made-leaf, made-grows, made-gather}
+use Rattle.tp_parse.proofs.Numbered.NewNames.{AddsOnly-same, names-atom, names-compound}
+use Rattle.tp_parse.proofs.Numbered.Cells.{made-leaf, made-grows, made-gather}
 use Rattle.tp_parse.proofs.build.take_step.Goals as goal
 
 pub returns-in_ok-push-in-Variable-clause-made : goal.returns-in_ok-push-in-Variable-clause-made
@@ -32,3 +33,15 @@ returns-in_ok-gather-in-Compound-clause-made c = λ trees h.
     rw c.in-Compound.is (made-gather c.intern-in-Compound.new.atoms c.args.making.now c.gather.new.making trees c.in_ok-name-in-Compound.name (label_name c.args.text.now c.in-Compound.label) c.in-Compound.count
     (made-grows c.args.atoms.now c.intern-in-Compound.new.atoms c.args.making.now trees c.in_ok-name-in-Compound.ensures.grows h) c.in_ok-gather-in-Compound.ensures ready.1 ready.2 place
     (slice_get_within c.intern-in-Compound.new.atoms c.in_ok-name-in-Compound.name.at _ place))
+
+pub returns-in_ok-push-in-Variable-clause-names : goal.returns-in_ok-push-in-Variable-clause-names
+returns-in_ok-push-in-Variable-clause-names c = λ trees. AddsOnly-same _ _
+
+pub returns-in_ok-push-in-Integer-clause-names : goal.returns-in_ok-push-in-Integer-clause-names
+returns-in_ok-push-in-Integer-clause-names c = λ trees. AddsOnly-same _ _
+
+pub returns-in_ok-push-in-Atom-clause-names : goal.returns-in_ok-push-in-Atom-clause-names
+returns-in_ok-push-in-Atom-clause-names c = λ trees. rw c.in-Atom.is (names-atom c.args.text.now c.in-Atom.label trees _ _ c.in_ok-name-in-Atom.ensures.names)
+
+pub returns-in_ok-gather-in-Compound-clause-names : goal.returns-in_ok-gather-in-Compound-clause-names
+returns-in_ok-gather-in-Compound-clause-names c = λ trees. rw c.in-Compound.is (names-compound c.args.text.now c.in-Compound.label c.in-Compound.count trees _ _ c.in_ok-name-in-Compound.ensures.names)

@@ -1,4 +1,4 @@
-use Rattle.tp_parse.proofs.OutcomeLawLemmas.{each_has_one_outcome, reading_follows_grammar}
+use Rattle.tp_parse.proofs.OneReading.Outcomes.{each_has_one_outcome, reading_follows_grammar}
 use Rattle.tp_parse.proofs.laws.one_reading.Goals as goal
 
 pub returns-clause-one : goal.returns-clause-one

@@ -1,5 +1,5 @@
 use Rattle.std.proofs.Common.{◌≡◌, ◌+◌, ◌-◌, suc, arith}
-use Rattle.tp_parse.proofs.StepLemmas.{link-more, link-length, link-ready}
+use Rattle.tp_parse.proofs.ReadsTerms.Steps.{link-more, link-length, link-ready}
 use Rattle.tp_parse.proofs.leaves.link.Goals as goal
 
 pub links-preserved : goal.links-preserved

@@ -1,6 +1,6 @@
 use Rattle.std.proofs.Common.{SFits, w64, ◌∙◌, rules}
 use Rattle.std.proofs.lemmas.Int.{to_z-of_z}
-use Rattle.tp_parse.proofs.StepLemmas.{codes-more, ready-more}
+use Rattle.tp_parse.proofs.ReadsTerms.Steps.{codes-more, ready-more}
 use Rattle.tp_parse.proofs.leaves.push_codes.Goals as goal
 
 pub loop-character-preserved : goal.loop-character-preserved

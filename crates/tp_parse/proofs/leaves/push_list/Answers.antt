@@ -1,5 +1,5 @@
 use Rattle.std.proofs.Common.{sym, ap, chars, ◌∙◌}
-use Rattle.tp_parse.proofs.StepLemmas.{ready-more, enough-codes, list-made}
+use Rattle.tp_parse.proofs.ReadsTerms.Steps.{ready-more, enough-codes, list-made}
 use Rattle.tp_parse.proofs.leaves.push_list.Goals as goal
 
 pub link-requires-clause-ready : goal.link-requires-clause-ready

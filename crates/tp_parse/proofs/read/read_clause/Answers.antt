@@ -6,7 +6,7 @@ use Rattle.tp_parse.specs.Ops.{table_of}
 use Rattle.tp_parse.specs.Whole.{ended_of}
 use Rattle.tp_parse.specs.Words.{ahead}
 use Rattle.tp_parse.specs.declared.words.Word.{Word}
-use Rattle.tp_parse.proofs.WholeLemmas.{clause-words, clause-none, clause-open, clause-term, clause-tells}
+use Rattle.tp_parse.proofs.ReadsTerms.Whole.{clause-words, clause-none, clause-open, clause-term, clause-tells}
 use Rattle.tp_parse.proofs.read.read_clause.Goals as goal
 
 pub returns-in_err-words-clause-read : goal.returns-in_err-words-clause-read

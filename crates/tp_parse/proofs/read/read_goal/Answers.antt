@@ -6,7 +6,7 @@ use Rattle.std.specs.declared.vec.Vec.{Vec}
 use Rattle.tp_parse.specs.declared.words.Word.{Word}
 use Rattle.tp_parse.specs.Ops.{table_of}
 use Rattle.tp_parse.specs.Words.{ahead}
-use Rattle.tp_parse.proofs.WholeLemmas.{goal-words, goal-tells}
+use Rattle.tp_parse.proofs.ReadsTerms.Whole.{goal-words, goal-tells}
 use Rattle.tp_parse.proofs.read.read_goal.Goals as goal
 
 pub take_words-requires : goal.take_words-requires

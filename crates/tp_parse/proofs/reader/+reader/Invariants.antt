@@ -4,7 +4,7 @@ use Rattle.tp_parse.specs.Ops.{table_of}
 use Rattle.tp_parse.specs.Reading.{args, elements, infix_parts, reading}
 use Rattle.tp_parse.specs.Steps.{top_of, trees_of, under}
 use Rattle.tp_parse.specs.Words.{ahead}
-use Rattle.tp_parse.proofs.LoopLemmas.{ArgsSoFar, ElementsSoFar, PartsSoFar}
+use Rattle.tp_parse.proofs.ReadsTerms.Loops.{ArgsSoFar, ElementsSoFar, PartsSoFar}
 use Rattle.tp_parse.proofs.reader.+reader.Given as goal
 
 abbrev pub decreases-follow_element : goal.decreases-follow_element
@@ -62,25 +62,25 @@ abbrev pub invariant-read_args-arguments : goal.invariant-read_args-arguments
 invariant-read_args-arguments l =
     let ops = table_of l.source.ops.now in let text = l.source.text.now in
     record {
-      so_far : ArgsSoFar (reading ops l.levels) (args (reading ops l.levels) 255 (ahead text l.fn.cursor)) (255 - l.index) l.index (trees_of text l.fn.steps.items) (trees_of text l.steps.items) (ahead text l.cursor);
-      going : IsGoing ops text l.cursor l.steps.items;
-      shorter : length l.cursor ≤ length l.fn.cursor;
+      so_far : ArgsSoFar (reading ops l.levels) (args (reading ops l.levels) 255 (ahead text l.fn.at.cursor)) (255 - l.index) l.index (trees_of text l.fn.at.steps.items) (trees_of text l.at.steps.items) (ahead text l.at.cursor);
+      going : IsGoing ops text l.at.cursor l.at.steps.items;
+      shorter : length l.at.cursor ≤ length l.fn.at.cursor;
     }
 
 abbrev pub invariant-read_elements-elements : goal.invariant-read_elements-elements
 invariant-read_elements-elements l =
     let ops = table_of l.source.ops.now in let text = l.source.text.now in
     record {
-      so_far : ElementsSoFar (reading ops l.levels) (elements (reading ops l.levels) (length (ahead text l.fn.cursor)) (ahead text l.fn.cursor)) (l.most - l.index) l.index (trees_of text l.fn.steps.items) (trees_of text l.steps.items) (ahead text l.cursor);
-      going : IsGoing ops text l.cursor l.steps.items;
-      shorter : length l.cursor ≤ length l.fn.cursor;
+      so_far : ElementsSoFar (reading ops l.levels) (elements (reading ops l.levels) (length (ahead text l.fn.at.cursor)) (ahead text l.fn.at.cursor)) (l.most - l.index) l.index (trees_of text l.fn.at.steps.items) (trees_of text l.at.steps.items) (ahead text l.at.cursor);
+      going : IsGoing ops text l.at.cursor l.at.steps.items;
+      shorter : length l.at.cursor ≤ length l.fn.at.cursor;
     }
 
 abbrev pub invariant-read_infix_parts-parts : goal.invariant-read_infix_parts-parts
 invariant-read_infix_parts-parts l =
     let ops = table_of l.source.ops.now in let text = l.source.text.now in
     record {
-      so_far : PartsSoFar ops (reading ops l.levels) l.bound (infix_parts ops (reading ops l.levels) (length (ahead text l.fn.cursor)) l.bound (top_of (trees_of text l.fn.steps.items)) l.fn.priority (ahead text l.fn.cursor)) (l.most - l.counter) l.priority (under (trees_of text l.fn.steps.items)) (trees_of text l.steps.items) (ahead text l.cursor);
-      going : IsGoing ops text l.cursor l.steps.items;
-      shorter : length l.cursor ≤ length l.fn.cursor;
+      so_far : PartsSoFar ops (reading ops l.levels) l.bound (infix_parts ops (reading ops l.levels) (length (ahead text l.fn.at.cursor)) l.bound (top_of (trees_of text l.fn.at.steps.items)) l.fn.priority (ahead text l.fn.at.cursor)) (l.most - l.counter) l.priority (under (trees_of text l.fn.at.steps.items)) (trees_of text l.at.steps.items) (ahead text l.at.cursor);
+      going : IsGoing ops text l.at.cursor l.at.steps.items;
+      shorter : length l.at.cursor ≤ length l.fn.at.cursor;
     }

@@ -1,4 +1,4 @@
-use Rattle.tp_parse.proofs.OpsLemmas.{found-some, found-none}
+use Rattle.tp_parse.proofs.Operators.{found-some, found-none}
 use Rattle.tp_parse.proofs.table.entry.Goals as goal
 
 pub returns-in-Some : goal.returns-in-Some

@@ -1,5 +1,5 @@
 use Rattle.std.proofs.Common.{sym}
-use Rattle.tp_parse.proofs.OpsLemmas.{is_kept_name-one, is_kept_name-none}
+use Rattle.tp_parse.proofs.Operators.{is_kept_name-one, is_kept_name-none}
 use Rattle.tp_parse.proofs.table.is_kept_name.Goals as goal
 
 pub returns-in-text : goal.returns-in-text

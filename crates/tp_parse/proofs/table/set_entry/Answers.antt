@@ -1,4 +1,4 @@
-use Rattle.tp_parse.proofs.OpsLemmas.{inserted}
+use Rattle.tp_parse.proofs.Operators.{inserted}
 use Rattle.tp_parse.proofs.table.set_entry.Goals as goal
 
 pub returns-clause-ok : goal.returns-clause-ok

@@ -1,4 +1,4 @@
-use Rattle.tp_parse.proofs.VariableLemmas.{added}
+use Rattle.tp_parse.proofs.Numbered.Variables.{added}
 use Rattle.tp_parse.proofs.variables.add.Goals as goal
 
 pub returns : goal.returns

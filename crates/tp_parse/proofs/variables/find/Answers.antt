@@ -1,5 +1,5 @@
 use Rattle.std.proofs.Common.{sym, ◌∙◌}
-use Rattle.tp_parse.proofs.VariableLemmas.{number_in-lookup}
+use Rattle.tp_parse.proofs.Numbered.Variables.{number_in-lookup}
 use Rattle.tp_parse.proofs.variables.find.Goals as goal
 
 pub returns-in-Some : goal.returns-in-Some

@@ -1,5 +1,5 @@
 use Rattle.std.proofs.Common.{◌∙◌}
-use Rattle.tp_parse.proofs.VariableLemmas.{anonymous}
+use Rattle.tp_parse.proofs.Numbered.Variables.{anonymous}
 use Rattle.tp_parse.proofs.variables.is_anonymous.Goals as goal
 
 pub returns : goal.returns

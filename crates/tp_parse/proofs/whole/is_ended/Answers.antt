@@ -1,5 +1,5 @@
 use Rattle.std.proofs.Common.{Some, ap, ◌∙◌}
-use Rattle.tp_parse.proofs.WholeLemmas.{last-ended}
+use Rattle.tp_parse.proofs.ReadsTerms.Whole.{last-ended}
 use Rattle.tp_parse.proofs.whole.is_ended.Goals as goal
 
 pub returns-in-Some : goal.returns-in-Some

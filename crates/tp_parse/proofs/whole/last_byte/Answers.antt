@@ -1,4 +1,4 @@
-use Rattle.tp_parse.proofs.WholeLemmas.{last-word}
+use Rattle.tp_parse.proofs.ReadsTerms.Whole.{last-word}
 use Rattle.tp_parse.proofs.whole.last_byte.Goals as goal
 
 pub returns-in-Some : goal.returns-in-Some

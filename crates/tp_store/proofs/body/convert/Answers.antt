@@ -8,7 +8,7 @@ use Rattle.tp_store.specs.Bodies.{Goes, Looked, jobs_size}
 use Rattle.tp_store.specs.Chain.{contents_of}
 use Rattle.tp_store.specs.Contents.{seen}
 use Rattle.tp_store.proofs.CopyLemmas.{newest_first, is_some_not, zero_unless, nothing_left}
-use Rattle.tp_store.proofs.BodyLemmas.{goes_on, no_body, done, join_smaller, first_made}
+use Rattle.tp_store.proofs.BodyLemmas.{goes_on, no_body, done, join_smaller, first_made, none_own, own_at}
 use Rattle.tp_store.proofs.body.convert.Goals as goal
 
 pub returns-then-not-branch-clause-body : goal.returns-then-not-branch-clause-body
@@ -23,6 +23,11 @@ returns-then-not-branch-clause-body c = λ names t h.
     sym (no_body old now c.args.goal at rest made g
     (subst (λ (b : Bool). Looked b now at rest made (contents_of c.look_at.new.chains) (reverse c.look_at.new.jobs.items) (reverse c.look_at.new.made.items)) c.if-not-branch.true c.in_ok-look_at-in-Convert.ensures.step)
     names t h)
+
+pub returns-then-not-branch-clause-own : goal.returns-then-not-branch-clause-own
+returns-then-not-branch-clause-own c =
+    let old = contents_of c.args.chains.now in
+    none_own old (contents_of c.look_at.new.chains) c.args.goal (λ names t h. sym (returns-then-not-branch-clause-body c names t h))
 
 pub jobs-preserved-else-not-branch : goal.jobs-preserved-else-not-branch
 jobs-preserved-else-not-branch c =
@@ -78,6 +83,16 @@ returns-clause-body c = λ names t h.
     let g = subst (λ (js : List Job). Goes old (Convert c.args.goal ∷ []) [] now js made) (nothing_left c.jobs.jobs.items none) c.jobs.invariant.goes in
     let d = done old now c.args.goal made g in
     ap (λ (r : Ref). Some (seen names now r.at)) (first_made c.jobs.made.items d.place c.index.result.now d.only c.index.ensures) ∙ d.found names t h
+
+pub returns-clause-own : goal.returns-clause-own
+returns-clause-own c =
+    let old = contents_of c.args.chains.now in
+    let now = contents_of c.jobs.chains in
+    let made = reverse c.jobs.made.items in
+    let none : length c.jobs.jobs.items ≡ 0 = let z = zero_unless (vec_len c.jobs.jobs) (λ lt. is_some_not c.pop.result (c.pop.ensures.variant.1 lt) c.in_default.not-Some) in omega (arith, z) in
+    let g = subst (λ (js : List Job). Goes old (Convert c.args.goal ∷ []) [] now js made) (nothing_left c.jobs.jobs.items none) c.jobs.invariant.goes in
+    let d = done old now c.args.goal made g in
+    own_at old now c.args.goal d.place c.index.result.now (first_made c.jobs.made.items d.place c.index.result.now d.only c.index.ensures) d.own
 
 pub returns-clause-named : goal.returns-clause-named
 returns-clause-named c =

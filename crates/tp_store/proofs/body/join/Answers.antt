@@ -1,11 +1,11 @@
-use Rattle.std.proofs.Common.{List, ◌∷◌, length, reverse, sym, subst}
+use Rattle.std.proofs.Common.{List, Ok, refl, ◌∷◌, length, reverse, sym, subst}
 use Rattle.tp_terms.specs.declared.cells.Ref.{Ref}
 use Rattle.tp_store.specs.declared.body.Job.TheVariants.{Join}
 use Rattle.tp_store.specs.Bodies.{AreJobs, Goes}
 use Rattle.tp_store.specs.Chain.{contents_of}
 use Rattle.tp_store.specs.Work.{AreIn}
 use Rattle.tp_store.proofs.CopyLemmas.{newest_first}
-use Rattle.tp_store.proofs.BodyLemmas.{joined_on}
+use Rattle.tp_store.proofs.BodyLemmas.{joined_on, ok_value, pairs_same}
 use Rattle.tp_store.proofs.body.join.Goals as goal
 
 pub returns-clause-step : goal.returns-clause-step
@@ -22,4 +22,5 @@ returns-clause-step c = λ jobs can.
     subst (Goes old (join ∷ jobs) (reverse c.args.made.now.items) new jobs) (sym after)
     (subst (λ (ms : List Ref). Goes old (join ∷ jobs) ms new jobs (place ∷ left)) (sym before)
     (joined_on old new c.requires.chains.store e.adds c.args.at c.args.name c.args.goals.0 c.args.goals.1 jobs bodies.0 bodies.1 left
-    (subst (λ (ms : List Ref). AreJobs old (join ∷ jobs) (length ms)) before can) (subst (AreIn old.cells) before c.requires.within) place e.place e.shown e.named))
+    (subst (λ (ms : List Ref). AreJobs old (join ∷ jobs) (length ms)) before can) (subst (AreIn old.cells) before c.requires.within) place e.place e.shown e.named
+    (λ x y. let q = e.own (pairs_same bodies c.args.goals x y) in (q.0, ok_value (Ok place) place c.args.at refl q.1))))

@@ -4,7 +4,7 @@ use Rattle.std.specs.Option.{option_to_list}
 use Rattle.tp_store.specs.declared.copy.Task.TheVariants.{Copy, Build}
 use Rattle.tp_store.specs.Chain.{contents_of}
 use Rattle.tp_store.proofs.CopyLemmas.{newest_first, is_some_not, zero_unless, nothing_left, only_one}
-use Rattle.tp_store.proofs.TaskLemmas.{IsCopying, copy_look, look_claimed, look_smaller, copy_build, copy_end, copied_shown, copied_named, tasks_size}
+use Rattle.tp_store.proofs.TaskLemmas.{IsCopying, copy_look, look_claimed, look_smaller, copy_build, copy_end, copied_shown, copied_last, copied_named, tasks_size}
 use Rattle.tp_store.proofs.copy.copy.Goals as goal
 
 pub look_at-requires-clause-variable : goal.look_at-requires-clause-variable
@@ -61,6 +61,16 @@ returns-clause-shown c =
     let h = subst (λ ts. IsCopying from c.args.base c.args.root.at old now ts (reverse c.tasks.made.items)) (nothing_left c.tasks.tasks.items none) c.tasks.invariant.copying in
     let e = copy_end from c.args.base c.args.root.at old now (reverse c.tasks.made.items) h in
     copied_shown from c.args.base c.args.root.at old now (reverse c.tasks.made.items) e c.index.result.now (contents_of c.place.new.self) (c.index.ensures ∙ ap (λ xs. get_or xs 0 c.index.result.now) (only_one c.tasks.made.items e.cell e.only)) c.in_ok-at.ensures.value c.in_ok-at.at.at c.in_ok-at.ensures.place
+
+pub returns-clause-last : goal.returns-clause-last
+returns-clause-last c =
+    let old = contents_of c.args.chains.now in
+    let now = contents_of c.tasks.chains in
+    let from = c.args.from.now.items in
+    let none : length c.tasks.tasks.items ≡ 0 = let z = zero_unless (vec_len c.tasks.tasks) (λ lt. is_some_not c.pop.result (c.pop.ensures.variant.1 lt) c.in_default.not-Some) in omega (arith, z) in
+    let h = subst (λ ts. IsCopying from c.args.base c.args.root.at old now ts (reverse c.tasks.made.items)) (nothing_left c.tasks.tasks.items none) c.tasks.invariant.copying in
+    let e = copy_end from c.args.base c.args.root.at old now (reverse c.tasks.made.items) h in
+    copied_last from c.args.base c.args.root.at old now (reverse c.tasks.made.items) e c.index.result.now (contents_of c.place.new.self) (c.index.ensures ∙ ap (λ xs. get_or xs 0 c.index.result.now) (only_one c.tasks.made.items e.cell e.only)) c.in_ok-at.ensures.value c.in_ok-at.at.at c.in_ok-at.ensures.place
 
 pub returns-clause-named : goal.returns-clause-named
 returns-clause-named c =

@@ -1,6 +1,6 @@
 use Rattle.std.proofs.Common.{sym, ap, ◌∙◌, chars}
 use Rattle.tp_terms.specs.Names.{names_of, with_name}
-use Rattle.tp_terms.proofs.NameLemmas.{found-place, found-names, stored-place, inserted-names}
+use Rattle.tp_terms.proofs.NameLemmas.{found-place, found-names, stored-place, inserted-names, not_found}
 use Rattle.tp_terms.proofs.atoms.find_or_add.Goals as goal
 
 pub returns-in-Some-clause-place : goal.returns-in-Some-clause-place
@@ -18,3 +18,9 @@ pub returns-clause-names : goal.returns-clause-names
 returns-clause-names c =
     ap names_of c.in_ok-at.ensures.keys ∙ inserted-names c.args.names.now.keys c.in_ok-owned.owned
     ∙ ap (λ text. with_name (names_of c.args.names.now.keys) (chars text)) c.in_ok-owned.ensures.ok
+
+pub returns-in_err-owned-clause-known : goal.returns-in_err-owned-clause-known
+returns-in_err-owned-clause-known c at e = absurd (not_found _ _ c.utf8.name (sym c.in_default.ensures.found) at e)
+
+pub returns-in_err-at-clause-known : goal.returns-in_err-at-clause-known
+returns-in_err-at-clause-known c at e = absurd (not_found _ _ c.utf8.name (sym c.in_default.ensures.found) at e)

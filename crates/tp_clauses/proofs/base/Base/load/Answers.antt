@@ -1,5 +1,7 @@
 use Rattle.std.proofs.Common.{◌∙◌}
-use Rattle.tp_clauses.proofs.BaseLemmas.{base_told, fault_told, model_bytes}
+use Rattle.tp_clauses.proofs.BaseLemmas.{base_told, fault_told, memory_told, model_bytes}
+use Rattle.tp_clauses.specs.declared.parts.Parts.{Parts}
+use Rattle.tp_clauses.specs.declared.base.Base.{Base}
 use Rattle.tp_clauses.proofs.base.Base.load.Goals as goal
 
 pub returns-in-Ok-load_text-clause-model : goal.returns-in-Ok-load_text-clause-model
@@ -13,3 +15,7 @@ returns-in-Err-load_text-clause-model c =
 
 pub returns-in-Err-clause-model : goal.returns-in-Err-clause-model
 returns-in-Err-clause-model c = model_bytes c.args.text.now c.valid_up_to.result c.in-Err.ensures.cases.0 (c.valid_up_to.ensures ∙ c.in-Err.ensures.valid_len)
+
+pub returns-in-Err-load_text-clause-memory : goal.returns-in-Err-load_text-clause-memory
+returns-in-Err-load_text-clause-memory c =
+    memory_told Parts Base c.args.text.now c.in-Ok.text.now c.in-Err-load_text.fault c.in-Ok.ensures.cases.0 c.in-Ok.ensures.cases.1 c.in-Err-load_text.ensures.memory

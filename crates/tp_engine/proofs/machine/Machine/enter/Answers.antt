@@ -10,8 +10,8 @@ pub clause-clause-requires : goal.clause-clause-requires
 clause-clause-requires c =
     id_there c.args.self.now c.args.task c.args.call c.requires.calls.meets.standing c.places.result.now c.places.ensures c.args.place c.id_at-id.result c.id_at-id.ensures
 
-pub returns : goal.returns
-returns c =
+pub returns-clause-done : goal.returns-clause-done
+returns-clause-done c =
     let m = c.args.self.now in
     let t = c.args.task in
     let is = c.requires.calls.meets.standing in

@@ -1,5 +1,5 @@
 use Rattle.tp_engine.proofs.Step.Parts.{keeps}
 use Rattle.tp_engine.proofs.machine.Machine.keep.Goals as goal
 
-pub returns : goal.returns
-returns c = keeps c.args.self.now c.args.next c.in_ok-state.state c.push.new.self c.requires c.in_ok-state.ensures c.in_ok-push.ensures.items
+pub returns-clause-done : goal.returns-clause-done
+returns-clause-done c = keeps c.args.self.now c.args.next c.in_ok-state.state c.push.new.self c.requires c.in_ok-state.ensures c.in_ok-push.ensures.items

@@ -18,8 +18,8 @@ raise-requires-clause-cause c =
     is_unknown m c.args.task c.args.call c.requires.call
     (no_clauses m.atoms m.base.now c.places.result.now (clauses_of m c.args.call) c.places.ensures (is_none (length c.places.result.now) c.is_empty.result c.is_empty.ensures c.if-is_empty.true))
 
-pub returns-in_default : goal.returns-in_default
-returns-in_default c =
+pub returns-in_default-clause-done : goal.returns-in_default-clause-done
+returns-in_default-clause-done c =
     let m = c.args.self.now in
     let some = some_clauses m.atoms m.base.now c.places.result.now (clauses_of m c.args.call) c.places.ensures (not_none (length c.places.result.now) c.is_empty.result c.is_empty.ensures c.if-is_empty.false) in
     subst (λ (x : Machine). Steps m x (Dead Failed)) (sym c.in_ok-first.ensures.same)
@@ -29,19 +29,19 @@ pub enter-requires : goal.enter-requires
 enter-requires c =
     let m = c.args.self.now in
     let first = c.in-Some.first in
-    let kept = subst (λ (x : Machine). IsKept x (Clause (first + 1)) c.keep_clauses.new.self) c.in_ok-first.ensures.same c.in_ok-keep_clauses.ensures in
+    let kept = subst (λ (x : Machine). IsKept x (Clause (first + 1)) c.keep_clauses.new.self) c.in_ok-first.ensures.same c.in_ok-keep_clauses.ensures.done in
     let n = next_untried m c.args.task c.args.call c.requires.call 0 first (sym c.in_ok-first.ensures.found ∙ c.in-Some.is) in
     hits_kept m c.keep_clauses.new.self (Clause (first + 1)) kept c.args.task c.args.call first n.hit
 
-pub returns : goal.returns
-returns c =
+pub returns-clause-done : goal.returns-clause-done
+returns-clause-done c =
     let m = c.args.self.now in
     let first = c.in-Some.first in
     let mid = c.keep_clauses.new.self in
     let new = c.enter.new.self in
-    let kept = subst (λ (x : Machine). IsKept x (Clause (first + 1)) c.keep_clauses.new.self) c.in_ok-first.ensures.same c.in_ok-keep_clauses.ensures in
+    let kept = subst (λ (x : Machine). IsKept x (Clause (first + 1)) c.keep_clauses.new.self) c.in_ok-first.ensures.same c.in_ok-keep_clauses.ensures.done in
     let some = some_clauses m.atoms m.base.now c.places.result.now (clauses_of m c.args.call) c.places.ensures (not_none (length c.places.result.now) c.is_empty.result c.is_empty.ensures c.if-is_empty.false) in
-    let e = c.in_ok-enter.ensures in
+    let e = c.in_ok-enter.ensures.done in
     to_branch m mid new (Clause (first + 1)) c.requires.machine kept e.goes
     (runs_some m c.args.task c.args.call c.requires.call some.0 some.1.0 first (world_in new) some.1.1 (sym c.in_ok-first.ensures.found ∙ c.in-Some.is)
     (sym (untried-same m mid (Clause (first + 1)) kept (Clause first)) ∙ e.world ∙ ap (λ ws. world_in new ∷ ws) (untried-same m mid (Clause (first + 1)) kept (Clause (first + 1)))))

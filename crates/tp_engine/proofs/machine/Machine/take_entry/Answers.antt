@@ -10,6 +10,6 @@ run-requires c = entry_there c.args.self.now c.requires c.take_slot-process.new.
 pub open-requires : goal.open-requires
 open-requires c = entry_kept c.args.self.now c.requires c.take_slot-process.new.self c.take_slot-process.result (c.take_slot-process.ensures _ _ c.requires.slots).0 (c.take_slot-process.ensures _ _ c.requires.slots).1 c.run.new.self c.run.ensures
 
-pub returns : goal.returns
-returns c =
+pub returns-clause-done : goal.returns-clause-done
+returns-clause-done c =
     takes c.args.self.now c.requires c.take_slot-process.new.self c.run.new.self c.open.new.self c.take_slot-process.result (c.take_slot-process.ensures _ _ c.requires.slots).0 (c.take_slot-process.ensures _ _ c.requires.slots).1 c.run.ensures c.in_ok-open.ensures

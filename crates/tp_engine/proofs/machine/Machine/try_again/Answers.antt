@@ -5,8 +5,8 @@ pub keep-requires : goal.keep-requires
 keep-requires c = may_again c.args.self.now c.args._process c.args.goal c.args.rest c.requires.machine c.requires.first
 
 pub push-requires : goal.push-requires
-push-requires c = rest_there c.args.self.now c.args._process c.args.goal c.args.rest c.requires.machine c.requires.first c.keep.new.self c.in_ok-keep.ensures
+push-requires c = rest_there c.args.self.now c.args._process c.args.goal c.args.rest c.requires.machine c.requires.first c.keep.new.self c.in_ok-keep.ensures.done
 
-pub returns : goal.returns
-returns c =
-    tries c.args.self.now c.args._process c.args.goal c.args.rest c.requires.machine c.requires.first c.keep.new.self c.push.new.self c.push-2.new.self c.in_ok-keep.ensures c.in_ok-push.ensures c.in_ok-push-2.ensures
+pub returns-clause-done : goal.returns-clause-done
+returns-clause-done c =
+    tries c.args.self.now c.args._process c.args.goal c.args.rest c.requires.machine c.requires.first c.keep.new.self c.push.new.self c.push-2.new.self c.in_ok-keep.ensures.done c.in_ok-push.ensures c.in_ok-push-2.ensures

@@ -2,7 +2,7 @@ use Rattle.std.proofs.Common.{◌≡◌, true, false, Some, length, arith}
 use Rattle.std.proofs.lemmas.Grind.{common_steps}
 use Rattle.tp_outside.specs.Files.{held_under}
 use Rattle.tp_outside.specs.Memory.{files_of, is_failing}
-use Rattle.tp_outside.proofs.MemoryLemmas.{failed_read, given_read}
+use Rattle.tp_outside.proofs.InMemory.Reads.{failed_read, given_read}
 use Rattle.tp_outside.proofs.memory.MemShelfShelf.read.Goals as goal
 
 -- a held name, by a call that fails

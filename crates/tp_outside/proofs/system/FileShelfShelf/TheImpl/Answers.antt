@@ -1,5 +1,5 @@
 use Rattle.std.proofs.Common.{refl}
-use Rattle.tp_outside.proofs.SystemLemmas.{IfOk-from_all}
+use Rattle.tp_outside.proofs.Untold.AnyAnswer.{IfOk-from_all}
 use Rattle.tp_outside.proofs.system.FileShelfShelf.TheImpl.Goals as goal
 
 -- no bytes are told, so none are shown

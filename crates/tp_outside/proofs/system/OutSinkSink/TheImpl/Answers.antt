@@ -1,5 +1,5 @@
 use Rattle.std.proofs.Common.{◌≡◌, List, ℕ, Option, None, refl}
-use Rattle.tp_outside.proofs.SystemLemmas.{IfOk-from_all, OnErr-from_fact}
+use Rattle.tp_outside.proofs.Untold.AnyAnswer.{IfOk-from_all, OnErr-from_fact}
 use Rattle.tp_outside.proofs.system.OutSinkSink.TheImpl.Goals as goal
 
 abbrev TellsNothing : Type 0

@@ -1,7 +1,7 @@
 use Rattle.std.proofs.Common.{sym, ap}
 use Rattle.std.specs.Str.{chars}
 use Rattle.tp_parse.specs.Table.{type_of}
-use Rattle.tp_parse.proofs.OpsLemmas.{type_of-none}
+use Rattle.tp_parse.proofs.Operators.{type_of-none}
 use Rattle.tp_parse.proofs.table.OpType.named.Goals as goal
 
 pub returns-in-xfx : goal.returns-in-xfx

@@ -1,4 +1,4 @@
-use Rattle.tp_parse.proofs.OpsLemmas.{start-table}
+use Rattle.tp_parse.proofs.Operators.{start-table}
 use Rattle.tp_parse.proofs.table.Ops.start.Goals as goal
 
 pub returns : goal.returns

@@ -1,5 +1,6 @@
+use Rattle.std.proofs.Common.{slice_get, ap, ◌∙◌}
 use Rattle.std.proofs.lemmas.Str.{scalars-chars}
-use Rattle.tp_terms.proofs.NameLemmas.{IsTable-with_name, Grows-with_name, Grows-keeps}
+use Rattle.tp_terms.proofs.NameLemmas.{IsTable-with_name, Grows-with_name, Grows-keeps, known_place, with_name-present}
 use Rattle.tp_terms.proofs.atoms.Atoms.intern.Goals as goal
 
 pub invariant_of-self-2 : goal.invariant_of-self-2
@@ -10,3 +11,13 @@ returns-clause-keeps c = rw (c.in_ok-at.ensures.names, c.self.view_is) (Grows-ke
 
 pub returns-clause-table : goal.returns-clause-table
 returns-clause-table c = rw c.in_ok-at.ensures.names (IsTable-with_name _ _ c.self.invariant (scalars-chars _ c.utf8.name))
+
+pub returns-clause-known : goal.returns-clause-known
+returns-clause-known c at e =
+    let there = ap (λ names. slice_get names at) c.self.view_is ∙ e in
+    known_place _ _ _ c.self.invariant.distinct c.in_ok-at.ensures.names _ at c.in_ok-at.ensures.place there
+
+pub returns-clause-stays : goal.returns-clause-stays
+returns-clause-stays c at e =
+    let there = ap (λ names. slice_get names at) c.self.view_is ∙ e in
+    c.in_ok-at.ensures.names ∙ with_name-present _ at _ there ∙ c.self.view_is

@@ -1,0 +1,2 @@
+pub mod ListsStay
+pub mod StampsStay

@@ -1,0 +1,10 @@
+//! A log of acts, by which they are taken back.
+#![tactic(auto)]
+
+pub mod entry;
+pub mod log;
+#[cfg(test)]
+mod tests;
+
+pub use entry::Entry;
+pub use log::Log;

@@ -1,0 +1,4 @@
+pub mod Joined
+pub mod FirstNode
+pub mod Mended
+pub mod Kept
