@@ -28,8 +28,8 @@ use Rattle.tp_engine.specs.State.{plain_of}
 use Rattle.tp_engine.specs.Machine.{base_in, open_in}
 
 -- an engine's own state: the table of names, the plain contents and the stamp of its world, how
--- many steps were answers, how many were made, the named variables of its goal, and the operators of
--- its model
+-- many steps were answers, how many were made, the named variables of its goal, and the operators
+-- of its model
 pub record Snapshot : Type 0 where
   pub names : List Name
   pub plain : Plain

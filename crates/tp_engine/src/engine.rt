@@ -63,8 +63,8 @@ impl<'a> Engine<'a> {
     /// The engine at the start of a goal over a base. Base and goal have their atoms in the table.
     ///
     /// # Errors
-    /// `Body` exactly where the goal has no body, and `NoMemory` where memory was refused. The table
-    /// is dropped then.
+    /// `Body` exactly where the goal has no body, and `NoMemory` where memory was refused. The
+    /// table is dropped then.
     pub fn new(
         alloc: Global,
         base: &'a Base,
@@ -94,9 +94,9 @@ impl<'a> Engine<'a> {
     /// step that answered `Went`, where fewer than 18446744073709551615 steps were made.
     ///
     /// # Errors
-    /// `NoMemory` where the memory for it isn't had. The counts of steps and answers stay then. From
-    /// then on `step`, `resume` and `run_to_end` answer that, and may always come; for which world
-    /// and choices the engine stands is left open.
+    /// `NoMemory` where the memory for it isn't had. The counts of steps and answers stay then.
+    /// From then on `step`, `resume` and `run_to_end` answer that, and may always come; for which
+    /// world and choices the engine stands is left open.
     pub fn step(&mut self) -> Result<Stepped, NoMemory>
         requires { MayStep self.old.phase self.old.seen.steps }
         ensures step { IfOk result (λ r. (answer_of self.new.seen r, state_of self.new)
