@@ -10,11 +10,17 @@ use Rattle.tp_meaning.specs.Step.{searched}
 use Rattle.tp_engine.specs.declared.run.How.{How}
 use Rattle.tp_engine.specs.declared.run.How.TheVariants.{NoMore, Stopped, Raised, Budget}
 use Rattle.tp_engine.specs.declared.run.Ended.{Ended}
+use Rattle.tp_engine.specs.Answers.{Answer, numbered}
 use Rattle.tp_engine.specs.Told.{Told, Snapshot, state_of, world_in, seen_in}
 
 -- what a search from an engine's world finds with so many steps for so many answers
 abbrev pub outcome_of : Told → ℕ → ℕ → Outcome World Term
 outcome_of t budget wanted = closed (try (searched t.base) (world_in t.seen) budget wanted)
+
+-- its answers, as they are handed over
+abbrev pub answers_of : Told → ℕ → ℕ → List Answer
+answers_of t budget wanted =
+    numbered t.seen.named t.seen.ops 0 (outcome_of t budget wanted).answers
 
 -- an end as the search has it: an error by its term, and with the world whose step raised it
 abbrev pub end_of : Snapshot → How → search.End World Term
@@ -25,7 +31,8 @@ end_of s Budget = search.Budget
 
 -- the place of an error's term is one of the engine's cells, and the time is the engine's
 abbrev pub RaisedStands : Snapshot → How → Type 0
-RaisedStands s (Raised term clock) = (term.at < length s.plain.store.cells) × (clock ≡ s.plain.clock)
+RaisedStands s (Raised term clock) =
+    (term.at < length s.plain.store.cells) × (clock ≡ s.plain.clock)
 RaisedStands s _ = Unit {0}
 
 -- the world of the last answer
@@ -70,5 +77,6 @@ turns_of e _ = e.steps - 1
 -- The engine stands where that many turns lead. The turn that ended the search made its step there.
 abbrev pub Reaches : Told → ℕ → Told → Ended → Type 0
 Reaches old wanted t e =
-    (tally : Outcome World Term)
-    × (after_turns (searched old.base) wanted (turns_of e e.how) (started (world_in old.seen)) ≡ GoesOn (machine_of (state_of t) tally))
+    let start = started (world_in old.seen) in
+    let turns = after_turns (searched old.base) wanted (turns_of e e.how) start in
+    (tally : Outcome World Term) × (turns ≡ GoesOn (machine_of (state_of t) tally))

@@ -31,7 +31,8 @@ Keeps phase.Ran m number steps = IsMachine m
 Keeps phase.Broken m number steps = Unit {0}
 Keeps _ m number steps = IsReady m number steps
 
--- after a run that met a fault of what takes answers, the view may be asked; after want of memory nothing goes on
+-- After a run that met a fault of what takes answers, the view may be asked. After want of memory
+-- nothing goes on.
 abbrev pub phase_after : AnswerFault → Phase
 phase_after Write = phase.Ran
 phase_after NoMemory = phase.Broken

@@ -12,16 +12,17 @@ use Rattle.tp_meaning.proofs.Turns.{total}
 use Rattle.tp_engine.specs.declared.answers.AnswerFault.{AnswerFault}
 use Rattle.tp_engine.specs.declared.answers.AnswerFault.TheVariants as why
 use Rattle.tp_engine.specs.declared.machine.Machine.{Machine}
+use Rattle.tp_engine.specs.declared.phase.Phase.TheVariants as phase
 use Rattle.tp_engine.specs.declared.phase.Stepped.{Stepped}
 use Rattle.tp_engine.specs.declared.phase.Stepped.TheVariants as answer
 use Rattle.tp_engine.specs.declared.run.Ended.{Ended}
 use Rattle.tp_engine.specs.declared.run.How.{How}
 use Rattle.tp_engine.specs.declared.run.How.TheVariants.{NoMore, Stopped, Raised, Budget}
 use Rattle.tp_engine.specs.declared.tally.Tally.{Tally}
-use Rattle.tp_engine.specs.Answers.{Answer, Took, numbered}
+use Rattle.tp_engine.specs.Answers.{Answer, Leaves, Takes, Took, numbered}
 use Rattle.tp_engine.specs.Ended.{RaisedStands, after_turns, end_of}
 use Rattle.tp_engine.specs.Machine.{IsMachine, SameProgram, answer_by, base_in, state_in, world_in}
-use Rattle.tp_engine.specs.Told.{seen_of}
+use Rattle.tp_engine.specs.Told.{Told, seen_of, told_of}
 
 -- ---- counts
 
@@ -85,15 +86,24 @@ EndsAt m r w Stopped = (r ≡ answer.Success) × (w ≡ world_in m)
 EndsAt m r w (Raised term clock) = RaisedStands (seen_of m 0 0) (Raised term clock)
 EndsAt m r w Budget = ⊥
 
--- a step is followed by what the definitions' machine does after it, so many answers having been found
-pub record Follows (r : Stepped) (found wanted : ℕ) (old : Machine) (how : Option How) (new : Machine) : Type 0 where
+-- a step with this answer is followed by what the definitions' machine does after it, where so many
+-- answers were found
+abbrev pub IsFollowed : Stepped → ℕ → ℕ → Machine → Option How → Machine → Type 0
+IsFollowed r found wanted old how new =
+    (t : Outcome World Term) → found ≡ length (found_by r (world_in old) t).answers →
+    turned (searched (base_in old)) wanted (answer_by old r) (state_in old) t
+        ≡ turn_to new how (found_by r (world_in old) t)
+
+pub record Follows
+    (r : Stepped) (found wanted : ℕ) (old : Machine) (how : Option How) (new : Machine)
+    : Type 0 where
   pub machine : IsMachine new
   pub same : SameProgram old new
   pub meaning : base_in new ≡ base_in old
   pub bound : new.stamp ≤ old.stamp
   pub stays : IfSome how (λ _. (r ≡ answer.Went → ⊥) × (state_in new ≡ state_in old))
   pub ends : IfSome how (EndsAt new r (world_in old))
-  pub turn : (t : Outcome World Term) → found ≡ length (found_by r (world_in old) t).answers → turned (searched (base_in old)) wanted (answer_by old r) (state_in old) t ≡ turn_to new how (found_by r (world_in old) t)
+  pub turn : IsFollowed r found wanted old how new
 
 -- the answer that is the next one of a machine, where a step leads to this world
 abbrev pub next_answer : Machine → Tally → World → Answer
@@ -110,8 +120,19 @@ abbrev pub answers_by : Stepped → Answer → List Answer
 answers_by answer.Success a = a ∷ []
 answers_by _ a = []
 
--- a turn is that of the definitions' machine
-pub record Turns {A : Type 0} (takes : A → Answer → A → Type 0) (wanted : ℕ) (old : Machine) (c : Tally) (before : A) (new : Machine) (d : Tally) (now : A) (how : Option How) : Type 0 where
+-- a turn of the definitions' machine goes on with this machine, or ends there, after a step with
+-- this answer that led to this world
+abbrev pub IsTurn : ℕ → Machine → Tally → Stepped → World → Option How → Machine → Type 0
+IsTurn wanted old c r w how new =
+    (t : Outcome World Term) → length t.answers ≡ c.found →
+    let m = machine_of (state_in old) t in
+    turn_by (searched (base_in old)) wanted (step (base_in old) (world_in old)) m
+        ≡ turn_to new how (found_by r w t)
+
+-- a turn was made
+pub record Turns {A : Type 0}
+    (takes : Takes A) (wanted : ℕ) (old : Machine) (c : Tally) (before : A)
+    (new : Machine) (d : Tally) (now : A) (how : Option How) : Type 0 where
   pub answer : Stepped
   pub world : World
   pub machine : IsMachine new
@@ -123,23 +144,47 @@ pub record Turns {A : Type 0} (takes : A → Answer → A → Type 0) (wanted : 
   pub took : Took takes before (answers_by answer (next_answer old c world)) now
   pub stays : IfSome how (λ _. state_in new ≡ state_in old)
   pub ends : IfSome how (EndsAt new answer world)
-  pub turn : (t : Outcome World Term) → length t.answers ≡ c.found → turn_by (searched (base_in old)) wanted (step (base_in old) (world_in old)) (machine_of (state_in old) t) ≡ turn_to new how (found_by answer world t)
+  pub turn : IsTurn wanted old c answer world how new
 
--- A turn met a fault: want of memory before or after its answer was taken, or a fault of what takes answers.
-pub record IsCutAt {A : Type 0} (takes : A → Answer → A → Type 0) (leaves : A → Answer → AnswerFault → A → Type 0) (old : Machine) (c : Tally) (fault : AnswerFault) (before now : A) (new : Machine) : Type 0 where
+-- this answer was taken, and then memory was refused; or it met a fault
+abbrev pub MetFault : {A : Type 0} → Takes A → Leaves A → Answer → AnswerFault → A → A → Type 0
+MetFault takes leaves a fault before now =
+    ((fault ≡ why.NoMemory) × takes before a now) ⊎ leaves before a fault now
+
+-- A turn met a fault: want of memory before its answer, or a fault at it or behind it.
+abbrev pub IsCut :
+    {A : Type 0} → Takes A → Leaves A → Machine → Answer → AnswerFault → A → A → Type 0
+IsCut takes leaves old a fault before now =
+    ((fault ≡ why.NoMemory) × (now ≡ before))
+    ⊎ ((step (base_in old) (world_in old) ≡ search.Success)
+    × MetFault takes leaves a fault before now)
+
+pub record IsCutAt {A : Type 0}
+    (takes : Takes A) (leaves : Leaves A) (old : Machine) (c : Tally) (fault : AnswerFault)
+    (before now : A) (new : Machine) : Type 0 where
   pub same : SameProgram old new
   pub write : fault ≡ why.Write → IsMachine new
-  pub cut :
-      ((fault ≡ why.NoMemory) × (now ≡ before))
-      ⊎ ((step (base_in old) (world_in old) ≡ search.Success)
-      × (((fault ≡ why.NoMemory) × takes before (next_answer old c (world_in old)) now)
-      ⊎ leaves before (next_answer old c (world_in old)) fault now))
+  pub cut : IsCut takes leaves old (next_answer old c (world_in old)) fault before now
 
 -- ---- the run
 
--- These answers were found so far and taken. As many turns of the definitions' machine lead here, and from here the
--- search finds what it finds in all.
-pub record IsRun {A : Type 0} (takes : A → Answer → A → Type 0) (start : Machine) (wanted : ℕ) (before : A) (m : Machine) (c : Tally) (now : A) : Type 0 where
+-- with n more steps, the search from here finds what the search from the start finds in all
+abbrev pub KeepsAll : Machine → ℕ → Machine → Tally → List (World × ℕ) → ℕ → Type 0
+KeepsAll start wanted m c answers n =
+    let x = searched (base_in start) in
+    total x (machine_of (state_in m) (tally_of c answers)) n wanted
+        ≡ closed (try x (world_in start) (c.steps + n) wanted)
+
+-- as many turns of the definitions' machine lead here
+abbrev pub IsThere : Machine → ℕ → Machine → Tally → List (World × ℕ) → Type 0
+IsThere start wanted m c answers =
+    after_turns (searched (base_in start)) wanted c.steps (started (world_in start))
+        ≡ GoesOn (machine_of (state_in m) (tally_of c answers))
+
+-- a run under way: these answers were found so far and taken
+pub record IsRun {A : Type 0}
+    (takes : Takes A) (start : Machine) (wanted : ℕ) (before : A) (m : Machine) (c : Tally)
+    (now : A) : Type 0 where
   pub answers : List (World × ℕ)
   pub count : length answers ≡ c.found
   pub machine : IsMachine m
@@ -149,8 +194,24 @@ pub record IsRun {A : Type 0} (takes : A → Answer → A → Type 0) (start : M
   pub fit : CountsFit c
   pub few : c.found < wanted
   pub took : Took takes before (numbered start.goal.now.named start.base.now.ops 0 answers) now
-  pub turns : after_turns (searched (base_in start)) wanted c.steps (started (world_in start)) ≡ GoesOn (machine_of (state_in m) (tally_of c answers))
-  pub kept : (n : ℕ) → total (searched (base_in start)) (machine_of (state_in m) (tally_of c answers)) n wanted ≡ closed (try (searched (base_in start)) (world_in start) (c.steps + n) wanted)
+  pub turns : IsThere start wanted m c answers
+  pub kept : (n : ℕ) → KeepsAll start wanted m c answers n
 
+-- ---- the whole run
+
+abbrev pub at_start : Machine → Told
+at_start m = told_of phase.New m 0 0
+
+abbrev pub at_end : Machine → Ended → Told
+at_end m e = told_of phase.Ran m e.found e.steps
+
+-- what was found, with this end
 abbrev pub ended_by : Tally → How → Ended
-ended_by c how = record { steps = c.steps; found = c.found; failed = c.failed; deadlock = c.deadlock; late = c.late; how = how }
+ended_by c how = record {
+  steps = c.steps;
+  found = c.found;
+  failed = c.failed;
+  deadlock = c.deadlock;
+  late = c.late;
+  how = how;
+}

@@ -27,8 +27,9 @@ use Rattle.tp_engine.specs.Stands.{EventStands}
 use Rattle.tp_engine.specs.State.{plain_of}
 use Rattle.tp_engine.specs.Machine.{base_in, open_in}
 
--- an engine's own state: the table of names, the plain contents and the stamp of its world, how many steps were
--- answers, how many were made, the named variables of its goal, and the operators of its model
+-- an engine's own state: the table of names, the plain contents and the stamp of its world, how
+-- many steps were answers, how many were made, the named variables of its goal, and the operators
+-- of its model
 pub record Snapshot : Type 0 where
   pub names : List Name
   pub plain : Plain
@@ -46,17 +47,21 @@ world_in s = world_of s.names s.plain s.stamp
 abbrev pub seen_in : Snapshot → Ref → Term
 seen_in s r = seen s.names s.plain.store r.at
 
--- What holds of an engine that met no want of memory: its store fits its cells, and all that it speaks of is there.
+-- What holds of an engine that met no want of memory: its store fits its cells, and all that it
+-- speaks of is there.
 pub record IsSound (s : Snapshot) : Type 0 where
   pub table : IsTable s.names
   pub store : IsStore s.plain.store
   pub fits : Fits s.plain.store.pairs s.plain.store.cells
   pub atoms : AreNamed (length s.names) s.plain.store.cells
   pub procs : AllByRecursion (λ q. q.name.at < length s.names) s.plain.procs
-  pub events : AllByRecursion (EventStands (length s.names) (length s.plain.store.cells) (length s.plain.procs)) s.plain.events
+  pub events : AllByRecursion
+    (EventStands (length s.names) (length s.plain.store.cells) (length s.plain.procs))
+    s.plain.events
   pub named : All (λ n. n.number < s.plain.store.vars) s.named
 
--- an engine: its clauses, its state, the choices that stand open, the newest first, and which call was the last
+-- an engine: its clauses, its state, the choices that stand open, the newest first, and which call
+-- was the last
 pub record Told : Type 0 where
   pub base : Base
   pub seen : Snapshot
@@ -106,7 +111,8 @@ abbrev pub number_after : Stepped → ℕ → ℕ
 number_after answer.Success n = n + 1
 number_after _ n = n
 
--- Each choice has untried worlds, which have the stamp after its own, and these stamps fall from below this one.
+-- Each choice has untried worlds, which have the stamp after its own, and these stamps fall from
+-- below this one.
 abbrev pub IsStacked : Told → ℕ → Type 0
 IsStacked t stamp = IsStack (searched t.base) stamp t.choices
 
@@ -130,7 +136,8 @@ pub record IsCounted (r : Stepped) (old new : Told) : Type 0 where
   pub steps : new.seen.steps ≡ old.seen.steps + 1
 
 -- an engine at the start of a goal over a base
-pub record IsStarted (table : List Name) (clauses : kept.Contents) (goal : ReadTerm) (t : Told) : Type 0 where
+pub record IsStarted
+    (table : List Name) (clauses : kept.Contents) (goal : ReadTerm) (t : Told) : Type 0 where
   pub base : t.base ≡ kept.base_of table clauses
   pub names : t.seen.names ≡ table
   pub named : t.seen.named ≡ goal.named
@@ -156,7 +163,8 @@ HasStopped answer.Success = Unit {0}
 HasStopped (answer.Dead cause) = Unit {0}
 HasStopped _ = ⊥
 
--- A step may come after `new`, `resume`, or a step that went on. After want of memory it may always come.
+-- A step may come after `new`, `resume`, or a step that went on. After want of memory it may always
+-- come.
 abbrev pub MayStep : Phase → ℕ → Type 0
 MayStep phase.New steps = steps < 2 ^ 64 - 1
 MayStep (phase.Stepped r) steps = HasGone r × (steps < 2 ^ 64 - 1)

@@ -57,7 +57,9 @@ pub trait Answers {
 
     /// Takes an answer as it is seen in an engine that met no want of memory.
     ///
-    /// Answers `Write` only where the count of faults rose. A count that stands at its last value counts as risen.
+    /// # Errors
+    /// `Write` only where the count of faults rose. A count that stands at its last value counts as
+    /// risen.
     fn answer(&mut self, view: &AnswerView<'_>) -> Result<(), AnswerFault>
         requires { IsSound view.now }
         ensures taken { OnOk result (takes self.old (answer_in view.now) self.new) }

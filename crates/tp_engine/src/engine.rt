@@ -20,7 +20,8 @@ use tp_clauses::Base;
 use tp_parse::ReadTerm;
 use tp_terms::{Atoms, NoMemory};
 
-/// A search under way: one world, and the choices that stand open. Contracts see `Told` of specs/Told.antt.
+/// A search under way: one world, and the choices that stand open. Contracts see `Told` of
+/// specs/Told.antt.
 #[derive(Drop)]
 pub struct Engine<'a> {
     pub(crate) machine: Machine<'a>,
@@ -62,7 +63,8 @@ impl<'a> Engine<'a> {
     /// The engine at the start of a goal over a base. Base and goal have their atoms in the table.
     ///
     /// # Errors
-    /// `Body` exactly where the goal has no body, and `NoMemory` where memory was refused. The table is dropped then.
+    /// `Body` exactly where the goal has no body, and `NoMemory` where memory was refused. The
+    /// table is dropped then.
     pub fn new(
         alloc: Global,
         base: &'a Base,
@@ -74,7 +76,8 @@ impl<'a> Engine<'a> {
         ensures started { IfOk result (IsStarted atoms base.entry.now goal.entry.now) }
         ensures stack { IfOk result (λ e. IsStacked e e.seen.stamp) }
         ensures body { IfOk result (λ _. IsTrue (is_some (body (goal_term atoms goal.entry.now)))) }
-        ensures no_body { result ≡ Err StartFault.Body → body (goal_term atoms goal.entry.now) ≡ None }
+        ensures no_body { result ≡ Err StartFault.Body →
+            body (goal_term atoms goal.entry.now) ≡ None }
     {
         let Some(machine) = Machine::start(alloc, base, atoms, goal)? else {
             return Err(StartFault::Body);
@@ -87,15 +90,17 @@ impl<'a> Engine<'a> {
         })
     }
 
-    /// One step of the world that the engine stands for. It may come after `new`, `resume` or a step that answered
-    /// `Went`, where fewer than 18446744073709551615 steps were made.
+    /// One step of the world that the engine stands for. It may come after `new`, `resume` or a
+    /// step that answered `Went`, where fewer than 18446744073709551615 steps were made.
     ///
-    /// Answers `NoMemory` where the memory for it isn't had. The counts of steps and answers stay then. From then on
-    /// `step`, `resume` and `run_to_end` answer that, and may always come; for which world and choices the engine
-    /// stands is left open.
+    /// # Errors
+    /// `NoMemory` where the memory for it isn't had. The counts of steps and answers stay then.
+    /// From then on `step`, `resume` and `run_to_end` answer that, and may always come; for which
+    /// world and choices the engine stands is left open.
     pub fn step(&mut self) -> Result<Stepped, NoMemory>
         requires { MayStep self.old.phase self.old.seen.steps }
-        ensures step { IfOk result (λ r. (answer_of self.new.seen r, state_of self.new) ≡ stepped (searched self.old.base) (state_of self.old)) }
+        ensures step { IfOk result (λ r. (answer_of self.new.seen r, state_of self.new)
+            ≡ stepped (searched self.old.base) (state_of self.old)) }
         ensures stack { OnOk result (IsStacked self.new self.new.seen.stamp) }
         ensures place { IfOk result (PlaceStands self.new.seen) }
         ensures counts { IfOk result (λ r. IsCounted r self.old self.new) }
@@ -116,8 +121,8 @@ impl<'a> Engine<'a> {
         Ok(stepped)
     }
 
-    /// Back to the world of the newest choice, where there is one. It may come after a step that answered `Success`
-    /// or `Dead`. Takes no memory.
+    /// Back to the world of the newest choice, where there is one. It may come after a step that
+    /// answered `Success` or `Dead`. Takes no memory.
     pub fn rewind(&mut self) -> bool
         requires { MayRewind self.old.phase }
         ensures back { (result, state_of self.new) ≡ rewound (state_of self.old) }
@@ -130,10 +135,11 @@ impl<'a> Engine<'a> {
         found
     }
 
-    /// On with the first untried world of the newest choice, which is that of the engine. It may come after a
-    /// `rewind` that answered true. This is no step.
+    /// On with the first untried world of the newest choice, which is that of the engine. It may
+    /// come after a `rewind` that answered true. This is no step.
     ///
-    /// Answers `NoMemory` where the memory for it isn't had, and from then on.
+    /// # Errors
+    /// `NoMemory` where the memory for it isn't had, and from then on.
     pub fn resume(&mut self) -> Result<(), NoMemory>
         requires { MayResume self.old.phase }
         ensures resumed { OnOk result (state_of self.new ≡ resumed (state_of self.old)) }

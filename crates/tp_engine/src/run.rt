@@ -3,11 +3,11 @@
 ghost use Rattle.std.specs.Prelude.{◌≡◌, ◌≤◌, ◌<◌, [], Err, IfOk, IfErr, OnOk, OnErr};
 ghost use Rattle.tp_outside.specs.Count.{Rose};
 ghost use Rattle.tp_engine.specs.Machine.{IsMachine, SameProgram};
-ghost use Rattle.tp_engine.specs.Answers.{IsCutShort, Took, numbered};
-ghost use Rattle.tp_engine.specs.Ended.{Finds, Reaches, outcome_of};
+ghost use Rattle.tp_engine.specs.Answers.{IsCutShort, Took};
+ghost use Rattle.tp_engine.specs.Ended.{Finds, Reaches, answers_of, outcome_of};
 ghost use Rattle.tp_engine.specs.Phases.{phase_after};
-ghost use Rattle.tp_engine.specs.Run.{ended_by};
-ghost use Rattle.tp_engine.specs.Told.{IsSame, IsUncounted, MayRun, told_of};
+ghost use Rattle.tp_engine.specs.Run.{at_end, at_start, ended_by};
+ghost use Rattle.tp_engine.specs.Told.{IsSame, IsUncounted, MayRun};
 ghost use Rattle.tp_engine.specs.declared.phase.Phase.{Phase};
 ghost use Rattle.tp_engine.specs.declared.answers.AnswerFault.{AnswerFault};
 
@@ -79,23 +79,20 @@ fn search<A: Answers>(
     requires stamp { machine.old.stamp ≤ 0 }
     requires wanted { 0 < wanted }
     ensures found { IfOk result (λ e.
-        Finds (outcome_of (told_of Phase.New machine.old 0 0) budget wanted)
-        (told_of Phase.Ran machine.new e.found e.steps) e) }
+        Finds (outcome_of (at_start machine.old) budget wanted) (at_end machine.new e) e) }
     ensures reached { IfOk result (λ e.
-        Reaches (told_of Phase.New machine.old 0 0) wanted
-        (told_of Phase.Ran machine.new e.found e.steps) e) }
+        Reaches (at_start machine.old) wanted (at_end machine.new e) e) }
     ensures took { OnOk result (Took A.takes answers.old
-        (numbered machine.old.goal.now.named machine.old.base.now.ops 0
-        (outcome_of (told_of Phase.New machine.old 0 0) budget wanted).answers) answers.new) }
+        (answers_of (at_start machine.old) budget wanted) answers.new) }
     ensures cut { IfErr result (λ fault. IsCutShort A.takes A.leaves
-        (numbered machine.old.goal.now.named machine.old.base.now.ops 0
-        (outcome_of (told_of Phase.New machine.old 0 0) budget wanted).answers)
-        fault answers.old answers.new) }
+        (answers_of (at_start machine.old) budget wanted) fault answers.old answers.new) }
     ensures same { SameProgram machine.old machine.new }
     ensures machine { OnOk result (IsMachine machine.new) }
-    ensures refused { IfErr result (λ fault. fault ≡ AnswerFault.Write → IsMachine machine.new) }
+    ensures refused { IfErr result (λ fault.
+        fault ≡ AnswerFault.Write → IsMachine machine.new) }
     ensures never_falls { A.faults answers.old ≤ A.faults answers.new }
-    ensures write { result ≡ Err AnswerFault.Write → Rose (A.faults answers.old) (A.faults answers.new) }
+    ensures write { result ≡ Err AnswerFault.Write →
+        Rose (A.faults answers.old) (A.faults answers.new) }
 {
     let mut tally = Tally {
         steps: 0,
@@ -113,15 +110,17 @@ fn search<A: Answers>(
 }
 
 impl<'a> Engine<'a> {
-    /// Searches with so many steps for so many answers, at least one, and hands each answer to `answers` as it is
-    /// found. It may come after `new`.
+    /// Searches with so many steps for so many answers, at least one, and hands each answer to
+    /// `answers` as it is found. It may come after `new`.
     ///
-    /// Afterwards the engine stands at the last answer that was wanted, at the world whose step raised the error, at
-    /// the last dead end or answer where there are no more, or at the world whose step would be the next.
+    /// Afterwards the engine stands at the last answer that was wanted, at the world whose step
+    /// raised the error, at the last dead end or answer where there are no more, or at the world
+    /// whose step would be the next.
     ///
-    /// A fault of `answers` ends the run at once with that fault. Answers `NoMemory` also where the memory for the
-    /// search isn't had, and from then on. After `Write` only the view may be asked. A fault leaves the counts of steps
-    /// and answers as they were.
+    /// # Errors
+    /// A fault of `answers` ends the run at once with that fault. Answers `NoMemory` also where the
+    /// memory for the search isn't had, and from then on. After `Write` only the view may be asked.
+    /// A fault leaves the counts of steps and answers as they were.
     pub fn run_to_end<A: Answers>(
         &mut self,
         budget: u64,
@@ -133,13 +132,12 @@ impl<'a> Engine<'a> {
         ensures found { IfOk result (Finds (outcome_of self.old budget wanted) self.new) }
         ensures reached { IfOk result (Reaches self.old wanted self.new) }
         ensures took { OnOk result (Took A.takes answers.old
-            (numbered self.old.seen.named self.old.seen.ops 0 (outcome_of self.old budget wanted).answers)
-            answers.new) }
+            (answers_of self.old budget wanted) answers.new) }
         ensures cut { IfErr result (λ fault. IsCutShort A.takes A.leaves
-            (numbered self.old.seen.named self.old.seen.ops 0 (outcome_of self.old budget wanted).answers)
-            fault answers.old answers.new) }
+            (answers_of self.old budget wanted) fault answers.old answers.new) }
         ensures never_falls { A.faults answers.old ≤ A.faults answers.new }
-        ensures write { result ≡ Err AnswerFault.Write → Rose (A.faults answers.old) (A.faults answers.new) }
+        ensures write { result ≡ Err AnswerFault.Write →
+            Rose (A.faults answers.old) (A.faults answers.new) }
         ensures same { IsSame self.old self.new }
         ensures uncounted { OnErr result (IsUncounted self.old self.new) }
         ensures phase { OnOk result (self.new.phase ≡ Phase.Ran) }

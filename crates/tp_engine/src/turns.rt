@@ -17,7 +17,8 @@ use crate::tally::Tally;
 use crate::view::AnswerView;
 use tp_terms::NoMemory;
 
-/// Hands over the world that a machine stands at, where its step was an answer, which the tally has counted.
+/// Hands over the world that a machine stands at, where its step was an answer, which the tally has
+/// counted.
 fn hand_over<A: Answers>(
     machine: &Machine<'_>,
     stepped: Stepped,
@@ -25,11 +26,15 @@ fn hand_over<A: Answers>(
     answers: &mut A,
 ) -> Result<(), AnswerFault>
     requires { IsMachine machine.now }
-    ensures took { OnOk result (Took A.takes answers.old (answers_by stepped (answer_in (seen_of machine.now tally.found tally.steps))) answers.new) }
+    ensures took { OnOk result (Took A.takes answers.old
+        (answers_by stepped (answer_in (seen_of machine.now tally.found tally.steps)))
+        answers.new) }
     ensures left { IfErr result (λ fault. (stepped ≡ Stepped.Success)
-        × A.leaves answers.old (answer_in (seen_of machine.now tally.found tally.steps)) fault answers.new) }
+        × A.leaves answers.old (answer_in (seen_of machine.now tally.found tally.steps))
+            fault answers.new) }
     ensures never_falls { A.faults answers.old ≤ A.faults answers.new }
-    ensures write { result ≡ Err AnswerFault.Write → Rose (A.faults answers.old) (A.faults answers.new) }
+    ensures write { result ≡ Err AnswerFault.Write →
+        Rose (A.faults answers.old) (A.faults answers.new) }
 {
     match stepped {
         Stepped::Success => answers.answer(&AnswerView::of(machine, tally.found, tally.steps)),
@@ -91,10 +96,13 @@ impl<'a> Machine<'a> {
         requires steps { tally.old.steps < 2 ^ 64 - 1 }
         requires few { tally.old.found < wanted }
         requires stamp { self.old.stamp < 2 ^ 64 - 1 }
-        ensures turns { IfOk result (Turns A.takes wanted self.old tally.old answers.old self.new tally.new answers.new) }
-        ensures cut { IfErr result (λ fault. IsCutAt A.takes A.leaves self.old tally.old fault answers.old answers.new self.new) }
+        ensures turns { IfOk result (Turns A.takes wanted
+            self.old tally.old answers.old self.new tally.new answers.new) }
+        ensures cut { IfErr result (λ fault. IsCutAt A.takes A.leaves
+            self.old tally.old fault answers.old answers.new self.new) }
         ensures never_falls { A.faults answers.old ≤ A.faults answers.new }
-        ensures write { result ≡ Err AnswerFault.Write → Rose (A.faults answers.old) (A.faults answers.new) }
+        ensures write { result ≡ Err AnswerFault.Write →
+            Rose (A.faults answers.old) (A.faults answers.new) }
     {
         let stepped = self.step()?;
         *tally = tally.counted(stepped);

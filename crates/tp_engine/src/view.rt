@@ -33,7 +33,15 @@ impl<'v> Model for AnswerView<'v> {
 
     ghost use Rattle.tp_engine.specs.State.{plain_of};
 
-    ghost view = { λ v. record { names = v.atoms.now; plain = plain_of v.state.now; stamp = v.stamp; number = v.number; steps = v.steps; named = v.named.now; ops = v.ops.now } };
+    ghost view = { λ v. record {
+      names = v.atoms.now;
+      plain = plain_of v.state.now;
+      stamp = v.stamp;
+      number = v.number;
+      steps = v.steps;
+      named = v.named.now;
+      ops = v.ops.now;
+    } };
 }
 
 impl<'v> AnswerView<'v> {

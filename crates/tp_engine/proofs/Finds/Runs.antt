@@ -22,18 +22,17 @@ use Rattle.tp_engine.specs.declared.answers.AnswerFault.TheVariants as why
 use Rattle.tp_engine.specs.declared.machine.Alt.{Alt}
 use Rattle.tp_engine.specs.declared.machine.Choice.{Choice}
 use Rattle.tp_engine.specs.declared.machine.Machine.{Machine}
-use Rattle.tp_engine.specs.declared.phase.Phase.TheVariants as phase
 use Rattle.tp_engine.specs.declared.phase.Stepped.{Stepped}
 use Rattle.tp_engine.specs.declared.phase.Stepped.TheVariants as answer
 use Rattle.tp_engine.specs.declared.run.How.{How}
 use Rattle.tp_engine.specs.declared.run.How.TheVariants.{NoMore, Stopped, Raised, Budget}
 use Rattle.tp_engine.specs.declared.tally.Tally.{Tally}
 use Rattle.tp_meaning.specs.declared.DeadCause.TheVariants.{Failed, Deadlock, Late}
-use Rattle.tp_engine.specs.Answers.{Answer, Took, IsCutShort, numbered}
+use Rattle.tp_engine.specs.Answers.{Answer, Leaves, Takes, Took, IsCutShort, numbered}
 use Rattle.tp_engine.specs.Ended.{AnswerStands, Finds, RaisedStands, Reaches, after_turns, end_of, last_world, outcome_of, turns_of}
 use Rattle.tp_engine.specs.Machine.{IsMachine, SameProgram, base_in, choices_of, open_in, state_in, waiting_of, world_in}
-use Rattle.tp_engine.specs.Run.{EndsAt, IsCutAt, IsRun, Turns, answers_by, counted, ended_by, found_by, next_answer, tally_of, turn_to}
-use Rattle.tp_engine.specs.Told.{Told, seen_of, told_of}
+use Rattle.tp_engine.specs.Run.{EndsAt, IsCut, IsCutAt, IsRun, Turns, answers_by, counted, at_end, at_start, ended_by, found_by, next_answer, tally_of, turn_to}
+use Rattle.tp_engine.specs.Told.{seen_of}
 use Rattle.tp_engine.proofs.Finds.Taken.{numbered-append, took-append}
 use Rattle.tp_engine.proofs.Finds.Turns.{found_after}
 use Rattle.tp_engine.proofs.Program.{base_fits}
@@ -80,7 +79,7 @@ state_alone m is none =
     ap (λ (o : Option Alt). record { world = world_in m; choices = waiting_of (base_in m) (world_in m) m.stamp o ++ choices_of m.atoms (base_in m) m.choices.items }) is.going
     ∙ ap (λ (cs : List Choice). record { world = world_in m; choices = choices_of m.atoms (base_in m) cs }) none
 
-module _ {A : Type 0} (takes : A → Answer → A → Type 0) (start : Machine) (k : ℕ) (first : A) where
+module _ {A : Type 0} (takes : Takes A) (start : Machine) (k : ℕ) (first : A) where
   abbrev x : Searched World Term
   x = searched (base_in start)
 
@@ -178,7 +177,7 @@ module _ {A : Type 0} (takes : A → Answer → A → Type 0) (start : Machine) 
 
     finds : (new : Machine) (d : Tally) (xs : List (World × ℕ)) (n : ℕ) (how : How) → ended (end_of (seen_of new d.found d.steps) how) (tally_of d xs) ≡ whole n → length xs ≡ d.found
         → AnswerStands (seen_of new d.found d.steps) xs how → RaisedStands (seen_of new d.found d.steps) how
-        → Finds (whole n) (told_of phase.Ran new d.found d.steps) (ended_by d how)
+        → Finds (whole n) (at_end new (ended_by d how)) (ended_by d how)
     finds new d xs n how e count stands raised = record {
       steps = ap (λ (q : Outcome World Term). q.steps) e;
       found = sym count ∙ ap (λ (q : Outcome World Term). length q.answers) e;
@@ -210,7 +209,7 @@ module _ {A : Type 0} (takes : A → Answer → A → Type 0) (start : Machine) 
       raised_stands (Raised term clock) e = e
       raised_stands Budget e = tt
 
-      pub ends : (n : ℕ) → c.steps < n → Finds (whole n) (told_of phase.Ran new d.found d.steps) (ended_by d how)
+      pub ends : (n : ℕ) → c.steps < n → Finds (whole n) (at_end new (ended_by d how)) (ended_by d how)
       ends n lt = finds new d (found new d now (Some how) t).answers n how (all_is n lt) (count_is new d now (Some how) t) (answer_stands how t.ends) (raised_stands how t.ends)
 
       pub ends_took : (n : ℕ) → c.steps < n → Took takes first (told (whole n).answers) now
@@ -222,7 +221,7 @@ module _ {A : Type 0} (takes : A → Answer → A → Type 0) (start : Machine) 
       before_last (Raised term clock) e = omega (arith, steps_are new d now (Some how) t)
       before_last Budget e = absurd e
 
-      pub reaches : Reaches (told_of phase.New start 0 0) k (told_of phase.Ran new d.found d.steps) (ended_by d how)
+      pub reaches : Reaches (at_start start) k (at_end new (ended_by d how)) (ended_by d how)
       reaches = (
         tally_of c run.answers,
         ap (λ n. after_turns x k n (started (world_in start))) (before_last how t.ends) ∙ run.turns ∙ ap (λ s. GoesOn (machine_of s (tally_of c run.answers))) (sym t.stays),
@@ -234,13 +233,13 @@ module _ {A : Type 0} (takes : A → Answer → A → Type 0) (start : Machine) 
       spent : ended search.Budget (tally_of c run.answers) ≡ whole n
       spent = total-end x before 0 k refl ∙ run.kept 0 ∙ ap (λ m. whole m) (let z : c.steps + 0 ≡ n = omega (arith, none) in z)
 
-      pub spends : Finds (whole n) (told_of phase.Ran old c.found c.steps) (ended_by c Budget)
+      pub spends : Finds (whole n) (at_end old (ended_by c Budget)) (ended_by c Budget)
       spends = finds old c run.answers n Budget spent run.count tt tt
 
       pub spends_took : Took takes first (told (whole n).answers) mid
       spends_took = subst (λ xs. Took takes first (told xs) mid) (ap (λ (q : Outcome World Term). q.answers) spent) run.took
 
-    pub spends_reaches : Reaches (told_of phase.New start 0 0) k (told_of phase.Ran old c.found c.steps) (ended_by c Budget)
+    pub spends_reaches : Reaches (at_start start) k (at_end old (ended_by c Budget)) (ended_by c Budget)
     spends_reaches = (tally_of c run.answers, run.turns)
 
     -- ---- a fault
@@ -289,20 +288,17 @@ module _ {A : Type 0} (takes : A → Answer → A → Type 0) (start : Machine) 
       told_next : (h : Begins n (answered).answers) → told (whole n).answers ≡ (told run.answers ++ next ∷ []) ++ behind h
       told_next h = told_begins (answered).answers h ∙ ap (λ as_. as_ ++ behind h) (numbered_after start answer.Success (world_in old) c run.answers run.count)
 
-      pub cut : (leaves : A → Answer → AnswerFault → A → Type 0) (fault : AnswerFault) (new : Machine) (now : A) → IsCutAt takes leaves old c fault mid now new → IsCutShort takes leaves (told (whole n).answers) fault first now
+      pub cut : (leaves : Leaves A) (fault : AnswerFault) (new : Machine) (now : A) → IsCutAt takes leaves old c fault mid now new → IsCutShort takes leaves (told (whole n).answers) fault first now
       cut leaves fault new now h = go h.cut
         where
-          go : ((fault ≡ why.NoMemory) × (now ≡ mid))
-              ⊎ ((step (base_in old) (world_in old) ≡ search.Success)
-              × (((fault ≡ why.NoMemory) × takes mid (next_answer old c (world_in old)) now) ⊎ leaves mid (next_answer old c (world_in old)) fault now))
-              → IsCutShort takes leaves (told (whole n).answers) fault first now
+          go : IsCut takes leaves old (next_answer old c (world_in old)) fault mid now → IsCutShort takes leaves (told (whole n).answers) fault first now
           go (inl e) = record {
             first = told run.answers;
             rest = _;
             is = told_begins run.answers so_far;
             at = mid;
             took = run.took;
-            fault_ = inl e;
+            cause = inl e;
           }
           go (inr (success, inl e)) = record {
             first = told run.answers ++ next ∷ [];
@@ -310,7 +306,7 @@ module _ {A : Type 0} (takes : A → Answer → A → Type 0) (start : Machine) 
             is = told_next (next_one success);
             at = now;
             took = took-append takes first mid now (told run.answers) (next ∷ []) run.took (now, subst (λ a. takes mid a now) (next_start (world_in old)) e.1, refl);
-            fault_ = inl (e.0, refl);
+            cause = inl (e.0, refl);
           }
           go (inr (success, inr e)) = record {
             first = told run.answers;
@@ -318,5 +314,5 @@ module _ {A : Type 0} (takes : A → Answer → A → Type 0) (start : Machine) 
             is = told_next (next_one success) ∙ append_assoc (told run.answers) (next ∷ []) (behind (next_one success));
             at = mid;
             took = run.took;
-            fault_ = inr (subst (λ a. leaves mid a fault now) (next_start (world_in old)) e);
+            cause = inr (subst (λ a. leaves mid a fault now) (next_start (world_in old)) e);
           }

@@ -21,9 +21,9 @@ use Rattle.tp_engine.specs.declared.phase.Stepped.TheVariants as answer
 use Rattle.tp_engine.specs.declared.run.How.{How}
 use Rattle.tp_engine.specs.declared.run.How.TheVariants.{NoMore}
 use Rattle.tp_engine.specs.declared.tally.Tally.{Tally}
-use Rattle.tp_engine.specs.Answers.{Answer, Took, answer_in}
+use Rattle.tp_engine.specs.Answers.{Answer, Leaves, Takes, Took, answer_in}
 use Rattle.tp_engine.specs.Machine.{IsMachine, SameProgram, Steps, Rewinds, Resumes, answer_by, base_in, state_in, world_in}
-use Rattle.tp_engine.specs.Run.{CountsFit, EndsAt, Follows, GoesBack, IsCutAt, Turns, answers_by, counted, found_by, next_answer, turn_to}
+use Rattle.tp_engine.specs.Run.{CountsFit, EndsAt, Follows, GoesBack, IsCut, IsCutAt, IsFollowed, Turns, answers_by, counted, found_by, next_answer, turn_to}
 use Rattle.tp_engine.specs.Told.{seen_of}
 use Rattle.tp_engine.proofs.SamePrograms.{same_trans}
 
@@ -149,7 +149,7 @@ went_by m (answer.Dead cause) other e = cc
 went_by m (answer.Raised place) other e = cc
 
 -- a turn: its step, the answer that was handed over, and what followed
-pub turns : {A : Type 0} (takes : A → Answer → A → Type 0) (wanted : ℕ) (old mid new : Machine) (c d : Tally) (before now : A) (r : Stepped) (how : Option How)
+pub turns : {A : Type 0} (takes : Takes A) (wanted : ℕ) (old mid new : Machine) (c d : Tally) (before now : A) (r : Stepped) (how : Option How)
     → Steps old mid r → d ≡ counted r c → CountsFit d → Took takes before (answers_by r (answer_in (seen_of mid d.found d.steps))) now → Follows r d.found wanted mid how new → Turns takes wanted old c before new d now how
 turns takes wanted old mid new c d before now r how st e fit took f = record {
   answer = r;
@@ -174,7 +174,7 @@ turns takes wanted old mid new c d before now r how st e fit took f = record {
 
 -- ---- a turn that is cut short
 
-module _ {A : Type 0} (takes : A → Answer → A → Type 0) (leaves : A → Answer → AnswerFault → A → Type 0) (old mid new : Machine) (c d : Tally) (before now : A) (fault : AnswerFault) where
+module _ {A : Type 0} (takes : Takes A) (leaves : Leaves A) (old mid new : Machine) (c d : Tally) (before now : A) (fault : AnswerFault) where
   -- before its step
   pub cut_before : SameProgram old new → fault ≡ why.NoMemory → now ≡ before → IsCutAt takes leaves old c fault before now new
   cut_before same memory is = record { same = same; write = λ e. absurd (let q : why.NoMemory ≡ why.Write = sym memory ∙ e in cc); cut = inl (memory, is) }
@@ -208,8 +208,7 @@ module _ {A : Type 0} (takes : A → Answer → A → Type 0) (leaves : A → An
     cut = go r refl took;
   }
     where
-      go : (q : Stepped) → r ≡ q → Took takes before (answers_by q (answer_in (seen_of mid d.found d.steps))) now
-          → ((fault ≡ why.NoMemory) × (now ≡ before)) ⊎ ((step (base_in old) (world_in old) ≡ search.Success) × (((fault ≡ why.NoMemory) × takes before (next_answer old c (world_in old)) now) ⊎ leaves before (next_answer old c (world_in old)) fault now))
+      go : (q : Stepped) → r ≡ q → Took takes before (answers_by q (answer_in (seen_of mid d.found d.steps))) now → IsCut takes leaves old (next_answer old c (world_in old)) fault before now
       go answer.Went is k = inl (memory, k)
       go answer.Success is k = inr ((at_answer r is st).0, inl (memory, subst (λ a. takes before a now) (handed r is st e) (subst (takes before (answer_in (seen_of mid d.found d.steps))) (sym k.2) k.1)))
       go (answer.Dead cause) is k = inl (memory, k)

@@ -1,11 +1,9 @@
 use Rattle.std.proofs.Common.{◌≡◌, ◌≤◌, Option, refl, sym, subst, arith}
 use Rattle.std.proofs.lemmas.Result.{err_from_is_err_and}
-use Rattle.tp_engine.specs.Run.{Turns, ended_by}
-use Rattle.tp_engine.specs.declared.phase.Phase.TheVariants.{New, Ran}
+use Rattle.tp_engine.specs.Run.{Turns, at_end, at_start}
 use Rattle.tp_engine.specs.declared.run.Ended.{Ended}
 use Rattle.tp_engine.specs.declared.run.How.{How}
 use Rattle.tp_engine.specs.Ended.{Finds, Reaches, outcome_of}
-use Rattle.tp_engine.specs.Told.{told_of}
 use Rattle.tp_engine.proofs.Finds.Runs.{begins, goes_on, steps_are, ends, ends_took, reaches, spends, spends_took, spends_reaches, cut}
 use Rattle.tp_engine.proofs.run.search.Goals as goal
 
@@ -33,14 +31,14 @@ pub returns-in-Some-clause-found : goal.returns-in-Some-clause-found
 returns-in-Some-clause-found g c =
     let turns : Option How → Type 0 = Turns g.A.Answers.takes c.args.wanted c.turns.machine c.turns.tally c.turns.answers c.turn.new.self c.turn.new.tally c.turn.new.answers in
     let t = subst turns c.in-Some.is c.in_ok-how.ensures.turns in
-    subst (λ (e : Ended). Finds (outcome_of (told_of New c.args.machine.now 0 0) c.args.budget c.args.wanted) (told_of Ran c.turn.new.self e.found e.steps) e) (sym c.summed.ensures)
+    subst (λ (e : Ended). Finds (outcome_of (at_start c.args.machine.now) c.args.budget c.args.wanted) (at_end c.turn.new.self e) e) (sym c.summed.ensures)
     (ends g.A.Answers.takes c.args.machine.now c.args.wanted c.args.answers.now c.turns.machine c.turns.tally c.turns.answers c.turns.invariant.run c.turn.new.self c.turn.new.tally c.turn.new.answers c.in-Some.how t c.args.budget c.turns-test.true)
 
 pub returns-in-Some-clause-reached : goal.returns-in-Some-clause-reached
 returns-in-Some-clause-reached g c =
     let turns : Option How → Type 0 = Turns g.A.Answers.takes c.args.wanted c.turns.machine c.turns.tally c.turns.answers c.turn.new.self c.turn.new.tally c.turn.new.answers in
     let t = subst turns c.in-Some.is c.in_ok-how.ensures.turns in
-    subst (λ (e : Ended). Reaches (told_of New c.args.machine.now 0 0) c.args.wanted (told_of Ran c.turn.new.self e.found e.steps) e) (sym c.summed.ensures)
+    subst (λ (e : Ended). Reaches (at_start c.args.machine.now) c.args.wanted (at_end c.turn.new.self e) e) (sym c.summed.ensures)
     (reaches g.A.Answers.takes c.args.machine.now c.args.wanted c.args.answers.now c.turns.machine c.turns.tally c.turns.answers c.turns.invariant.run c.turn.new.self c.turn.new.tally c.turn.new.answers c.in-Some.how t)
 
 pub returns-in-Some-clause-took : goal.returns-in-Some-clause-took
@@ -51,12 +49,12 @@ returns-in-Some-clause-took g c =
 
 pub returns-clause-found : goal.returns-clause-found
 returns-clause-found g c =
-    subst (λ (e : Ended). Finds (outcome_of (told_of New c.args.machine.now 0 0) c.args.budget c.args.wanted) (told_of Ran c.turns.machine e.found e.steps) e) (sym c.summed-2.ensures)
+    subst (λ (e : Ended). Finds (outcome_of (at_start c.args.machine.now) c.args.budget c.args.wanted) (at_end c.turns.machine e) e) (sym c.summed-2.ensures)
     (spends g.A.Answers.takes c.args.machine.now c.args.wanted c.args.answers.now c.turns.machine c.turns.tally c.turns.answers c.turns.invariant.run c.args.budget (omega (arith, c.turns-test.false, c.turns.invariant.within)))
 
 pub returns-clause-reached : goal.returns-clause-reached
 returns-clause-reached g c =
-    subst (λ (e : Ended). Reaches (told_of New c.args.machine.now 0 0) c.args.wanted (told_of Ran c.turns.machine e.found e.steps) e) (sym c.summed-2.ensures)
+    subst (λ (e : Ended). Reaches (at_start c.args.machine.now) c.args.wanted (at_end c.turns.machine e) e) (sym c.summed-2.ensures)
     (spends_reaches g.A.Answers.takes c.args.machine.now c.args.wanted c.args.answers.now c.turns.machine c.turns.tally c.turns.answers c.turns.invariant.run)
 
 pub returns-clause-took : goal.returns-clause-took

@@ -1,25 +1,25 @@
 use Rattle.std.proofs.Common.{subst, sym}
-use Rattle.tp_engine.specs.declared.phase.Phase.TheVariants.{Ran}
-use Rattle.tp_engine.specs.Answers.{Took, IsCutShort, numbered}
+use Rattle.tp_engine.specs.Run.{at_end}
+use Rattle.tp_engine.specs.Answers.{Took, IsCutShort}
 use Rattle.tp_engine.specs.Phases.{Keeps}
-use Rattle.tp_engine.specs.Ended.{Finds, Reaches, outcome_of}
-use Rattle.tp_engine.specs.Told.{Told, MayRun, told_of}
+use Rattle.tp_engine.specs.Ended.{Finds, Reaches, answers_of, outcome_of}
+use Rattle.tp_engine.specs.Told.{Told, MayRun}
 use Rattle.tp_engine.proofs.Calls.{may_run, fault_keeps, same_told, uncounted}
 use Rattle.tp_engine.proofs.engine.Engine.run_to_end.Goals as goal
 
 pub returns-in-Ok-clause-found : goal.returns-in-Ok-clause-found
 returns-in-Ok-clause-found g c =
     let e = c.in-Ok.ended in
-    subst (λ (t : Told). Finds (outcome_of t c.args.budget c.args.wanted) (told_of Ran c.search.new.machine e.found e.steps) e) c.self.view_is c.in-Ok.ensures.found
+    subst (λ (t : Told). Finds (outcome_of t c.args.budget c.args.wanted) (at_end c.search.new.machine e) e) c.self.view_is c.in-Ok.ensures.found
 
 pub returns-in-Ok-clause-reached : goal.returns-in-Ok-clause-reached
 returns-in-Ok-clause-reached g c =
     let e = c.in-Ok.ended in
-    subst (λ (t : Told). Reaches t c.args.wanted (told_of Ran c.search.new.machine e.found e.steps) e) c.self.view_is c.in-Ok.ensures.reached
+    subst (λ (t : Told). Reaches t c.args.wanted (at_end c.search.new.machine e) e) c.self.view_is c.in-Ok.ensures.reached
 
 pub returns-in-Ok-clause-took : goal.returns-in-Ok-clause-took
 returns-in-Ok-clause-took g c =
-    subst (λ (t : Told). Took g.A.Answers.takes c.args.answers.now (numbered t.seen.named t.seen.ops 0 (outcome_of t c.args.budget c.args.wanted).answers) c.search.new.answers) c.self.view_is c.in-Ok.ensures.took
+    subst (λ (t : Told). Took g.A.Answers.takes c.args.answers.now (answers_of t c.args.budget c.args.wanted) c.search.new.answers) c.self.view_is c.in-Ok.ensures.took
 
 pub returns-in-Ok-clause-same : goal.returns-in-Ok-clause-same
 returns-in-Ok-clause-same g c =
@@ -29,7 +29,7 @@ returns-in-Ok-clause-same g c =
 
 pub returns-in-Err-clause-cut : goal.returns-in-Err-clause-cut
 returns-in-Err-clause-cut g c =
-    subst (λ (t : Told). IsCutShort g.A.Answers.takes g.A.Answers.leaves (numbered t.seen.named t.seen.ops 0 (outcome_of t c.args.budget c.args.wanted).answers) c.in-Err.fault c.args.answers.now c.search.new.answers) c.self.view_is c.in-Err.ensures.cut
+    subst (λ (t : Told). IsCutShort g.A.Answers.takes g.A.Answers.leaves (answers_of t c.args.budget c.args.wanted) c.in-Err.fault c.args.answers.now c.search.new.answers) c.self.view_is c.in-Err.ensures.cut
 
 pub returns-in-Err-clause-same : goal.returns-in-Err-clause-same
 returns-in-Err-clause-same g c =
