@@ -29,7 +29,7 @@ fn search(alloc: Global, mut engine: Engine<'_>) -> Result<Reply, NoMemory>
     requires { MayRun engine.phase }
     ensures { IfOk result (λ reply.
         view_of reply ≡ report_of (table_of engine.entry.seen.ops) engine.entry.seen.named
-            (outcome_of engine.entry 1000000 1)) }
+        (outcome_of engine.entry 1000000 1)) }
 {
     let mut lines = Lines {
         text: String::new(alloc),
