@@ -7,8 +7,8 @@ use Rattle.tp_clauses.specs.Model.{refusal}
 use Rattle.tp_clauses.specs.declared.fault.Cause.{Cause}
 use Rattle.tp_report.specs.End.{last_line}
 use Rattle.tp_report.specs.declared.end.EndLine.{EndLine}
-use Rattle.tp_top.specs.declared.run.Status.{Status}
-use Rattle.tp_top.specs.declared.run.Status.TheVariants as status
+use Rattle.tp_top.specs.declared.program.Status.{Status}
+use Rattle.tp_top.specs.declared.program.Status.TheVariants as status
 use Rattle.tp_top.specs.Expected.{Answer, cause_word, goal_refused, model_refused}
 use Rattle.tp_top.specs.Report.{with_last}
 

@@ -42,8 +42,8 @@ use Rattle.tp_engine.specs.Program.{goal_term}
 use Rattle.tp_engine.specs.Told.{IsSame, IsStarted, Told, world_in}
 use Rattle.tp_report.specs.declared.end.EndLine.{EndLine}
 use Rattle.tp_report.specs.declared.end.EndLine.TheVariants as last
-use Rattle.tp_top.specs.declared.run.Status.{Status}
-use Rattle.tp_top.specs.declared.run.Status.TheVariants as status
+use Rattle.tp_top.specs.declared.program.Status.{Status}
+use Rattle.tp_top.specs.declared.program.Status.TheVariants as status
 use Rattle.tp_top.specs.Report.{Counts, counts_of, answers_text, end_by, with_last, report}
 use Rattle.tp_top.specs.Replies.{counts_in}
 use Rattle.tp_report.specs.Report.{world_answer_text}

@@ -4,10 +4,10 @@ use Rattle.std.proofs.lemmas.List.{append-nil}
 use Rattle.tp_outside.specs.Count.{Rose}
 use Rattle.tp_outside.specs.Files.{Files, held_under}
 use Rattle.tp_outside.specs.Taken.{added, HasPrefix}
-use Rattle.tp_top.specs.declared.run.Status.{Status}
-use Rattle.tp_top.specs.declared.run.Status.TheVariants.{Found, No, Raised, Budget, Usage, Model, Goal, Read, Write, Memory}
+use Rattle.tp_top.specs.declared.program.Status.{Status}
+use Rattle.tp_top.specs.declared.program.Status.TheVariants.{Found, No, Raised, Budget, Usage, Model, Goal, Read, Write, Memory}
 use Rattle.tp_top.specs.Expected.{Request, request, Answer, expected, expected_of, for_held, usage, read_fault}
-use Rattle.tp_top.specs.Ended.{Run, IsPlain, OfUsage, OfExpected, IsReadFault, CouldNotRead, Wrote, WrotePart, IsCutShort, GaveExpected, GaveAll, Ended, Prepared}
+use Rattle.tp_top.specs.Ended.{Run, IsPlain, OfUsage, OfExpected, IsReadFault, CouldNotRead, ReadModel, Wrote, WrotePart, IsCutShort, GaveExpected, GaveAll, Ended, Prepared}
 
 added_none : (old : Option (List ℕ)) → added old [] ≡ old
 added_none None = refl
@@ -39,7 +39,7 @@ record Parts (run : Run) (s : Status) : Type 0 where
   plain : IsPlain s → OfExpected run.words run.held (GaveExpected run s)
   read : s ≡ Read → CouldNotRead run × Wrote run read_fault
   write : s ≡ Write → Rose run.writes_before run.writes_after × IsCutShort run
-  memory : s ≡ Memory → IsCutShort run
+  memory : s ≡ Memory → ReadModel run × IsCutShort run
 
 -- what a status is
 data Kind (s : Status) : Type 0 where
@@ -101,8 +101,8 @@ nothing_written run same = inl (any_expected run.words run.held (WrotePart run) 
     part (Some a) = (0, omega arith, same ∙ sym (added_none run.taken_before))
 
 -- memory was refused before anything was written
-pub out_of_memory : (run : Run) → run.taken_after ≡ run.taken_before → Ended run Memory
-out_of_memory run same = ended run Memory (record { plain = λ h. absurd h; read = λ e. absurd (cc); write = λ e. absurd (cc); memory = λ e. nothing_written run same })
+pub out_of_memory : (run : Run) → ReadModel run → run.taken_after ≡ run.taken_before → Ended run Memory
+out_of_memory run had same = ended run Memory (record { plain = λ h. absurd h; read = λ e. absurd (cc); write = λ e. absurd (cc); memory = λ e. (had, nothing_written run same) })
 
 abbrev PreparedFor : Run → Answer → Type 0
 PreparedFor run a = Prepared a run.words run.held run.reads_before run.reads_after

@@ -1,12 +1,12 @@
 -- What a run does, with every shelf and every sink.
-use Rattle.std.specs.Prelude.{◌≡◌, ℕ, List, map, string_bytes, Option, Some, None, MatchOption, IsSomeAnd, ◌⊎◌}
+use Rattle.std.specs.Prelude.{◌≡◌, ℕ, List, map, string_bytes, Option, Some, None, MatchOption, IsSome, IsSomeAnd, ◌⊎◌}
 use Rattle.std.specs.declared.alloc.Global.{Global}
 use Rattle.std.specs.declared.string.String.{String}
 use Rattle.tp_outside.specs.Count.{Rose}
 use Rattle.tp_outside.specs.Files.{Files, held_under}
 use Rattle.tp_outside.specs.Taken.{added, HasPrefix}
-use Rattle.tp_top.specs.declared.run.Status.{Status}
-use Rattle.tp_top.specs.declared.run.Status.TheVariants.{Found, No, Raised, Budget, Usage, Model, Goal, Read, Write, Memory}
+use Rattle.tp_top.specs.declared.program.Status.{Status}
+use Rattle.tp_top.specs.declared.program.Status.TheVariants.{Found, No, Raised, Budget, Usage, Model, Goal, Read, Write, Memory}
 use Rattle.tp_top.specs.Expected.{Request, request, Answer, expected, usage, read_fault}
 
 -- the number of a status
@@ -68,6 +68,19 @@ IsReadFault (Some r) held before after = CouldFail held r.model before after
 abbrev pub CouldNotRead : Run → Type 0
 CouldNotRead run = IsReadFault (request run.words) run.held run.reads_before run.reads_after
 
+-- the name is held, where the shelf tells
+abbrev pub MayBeHeld : Option Files → List ℕ → Type 0
+MayBeHeld None name = Unit {0}
+MayBeHeld (Some files) name = IsSome (held_under files name)
+
+-- the words are a request whose model was read, whole or in part, and no read failed
+abbrev pub WasRead : Option Request → Option Files → ℕ → ℕ → Type 0
+WasRead None held before after = ⊥
+WasRead (Some r) held before after = MayBeHeld held r.model × (after ≡ before)
+
+abbrev pub ReadModel : Run → Type 0
+ReadModel run = WasRead (request run.words) run.held run.reads_before run.reads_after
+
 -- ---- what is written
 
 -- a whole text was added
@@ -113,8 +126,8 @@ pub record Ended (run : Run) (status : Status) : Type 0 where
   pub read : status ≡ Read → CouldNotRead run × Wrote run read_fault
   -- Where it is a write fault, the count of faults of writing rose, and a prefix was written.
   pub write : status ≡ Write → Rose run.writes_before run.writes_after × IsCutShort run
-  -- Where memory was refused, a prefix was written.
-  pub memory : status ≡ Memory → IsCutShort run
+  -- Where memory was refused, the model was read without a fault, and a prefix was written.
+  pub memory : status ≡ Memory → ReadModel run × IsCutShort run
   -- Where no count of faults rose, the expected answer was given, whole, or the line of a read fault where none is
   -- expected, or memory was refused.
   pub complete :

@@ -13,8 +13,8 @@ use Rattle.tp_clauses.specs.Goal.{goal_of}
 use Rattle.tp_clauses.specs.declared.fault.Cause.{Cause}
 use Rattle.tp_clauses.specs.declared.fault.Cause.TheVariants as cause
 use Rattle.tp_report.specs.Report.{line}
-use Rattle.tp_top.specs.declared.run.Status.{Status}
-use Rattle.tp_top.specs.declared.run.Status.TheVariants as status
+use Rattle.tp_top.specs.declared.program.Status.{Status}
+use Rattle.tp_top.specs.declared.program.Status.TheVariants as status
 use Rattle.tp_top.specs.Report.{report}
 
 -- ---- the words

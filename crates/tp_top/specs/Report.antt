@@ -10,8 +10,8 @@ use Rattle.tp_report.specs.Report.{world_answer_text}
 use Rattle.tp_report.specs.End.{last_line}
 use Rattle.tp_report.specs.declared.end.EndLine.{EndLine}
 use Rattle.tp_report.specs.declared.end.EndLine.TheVariants as last
-use Rattle.tp_top.specs.declared.run.Status.{Status}
-use Rattle.tp_top.specs.declared.run.Status.TheVariants as status
+use Rattle.tp_top.specs.declared.program.Status.{Status}
+use Rattle.tp_top.specs.declared.program.Status.TheVariants as status
 
 -- ---- answers
 

@@ -3,6 +3,8 @@
 
 mod answer;
 mod lines;
+mod program;
 mod refusal;
 mod report;
-pub mod run;
+
+pub use program::{Status, run};

@@ -6,7 +6,7 @@ ghost use Rattle.tp_top.specs.Expected.{cause_word as word_of, goal_refused as g
 ghost use Rattle.tp_top.specs.Replies.{view_of};
 
 use crate::report::Reply;
-use crate::run::Status;
+use crate::program::Status;
 use std::alloc::Global;
 use tp_clauses::Cause;
 use tp_parse::ReadCause;
@@ -53,10 +53,7 @@ pub fn model_refused(alloc: Global, clause: u64, byte: u64, cause: Cause) -> Res
 {
     let word = cause_word(cause);
     let text = format!(in alloc; "model refused: clause {clause} byte {byte} cause {word}\n")?;
-    Ok(Reply {
-        status: Status::Model,
-        text,
-    })
+    Ok(Reply::made(Status::Model, text))
 }
 
 /// The answer to a goal that is refused at a byte.
@@ -65,8 +62,5 @@ pub fn goal_refused(alloc: Global, byte: usize, cause: Cause) -> Result<Reply, N
 {
     let word = cause_word(cause);
     let text = format!(in alloc; "goal refused: byte {byte} cause {word}\n")?;
-    Ok(Reply {
-        status: Status::Goal,
-        text,
-    })
+    Ok(Reply::made(Status::Goal, text))
 }

@@ -10,12 +10,35 @@ ghost use Rattle.tp_write.specs.Text.{text as term_text};
 ghost use Rattle.tp_top.specs.Report.{end_by, with_last};
 ghost use Rattle.tp_top.specs.Replies.{counts_in, view_of};
 
-use crate::run::Status;
+use crate::program::Status;
 use std::alloc::Global;
 use tp_engine::{AnswerView, Ended, How};
 use tp_report::{EndLine, end_text};
 use tp_terms::{NoMemory, Ref, Text};
 use tp_write::write_term;
+
+/// A text that is fixed, or one that was made.
+#[derive(Debug, Drop)]
+pub enum Wording {
+    /// A text of the program.
+    Fixed(&'static str),
+    /// A text that was made for this run.
+    Made(String),
+}
+
+impl Wording {
+    ghost use Rattle.tp_top.specs.Replies.{bytes_of};
+
+    /// The bytes of the text.
+    pub fn as_bytes(&self) -> &[u8]
+        ensures { result.now ≡ bytes_of self.now }
+    {
+        match self {
+            Wording::Fixed(text) => text.as_bytes(),
+            Wording::Made(text) => text.as_bytes(),
+        }
+    }
+}
 
 /// A status, and the text that goes with it.
 #[derive(Debug, Drop)]
@@ -23,16 +46,28 @@ pub struct Reply {
     /// The status.
     pub status: Status,
     /// The text.
-    pub text: String,
+    pub text: Wording,
 }
 
 impl Reply {
-    /// A reply with a text that is fixed.
-    pub fn fixed(alloc: Global, status: Status, text: &str) -> Result<Reply, NoMemory>
-        ensures { IfOk result (λ reply. view_of reply ≡ (status, text.now)) }
+    /// A reply with a text that is fixed. Takes no memory.
+    pub fn fixed(status: Status, text: &'static str) -> Reply
+        ensures { view_of result ≡ (status, text.now) }
     {
-        let text = String::from_str(alloc, text)?;
-        Ok(Reply { status, text })
+        Reply {
+            status,
+            text: Wording::Fixed(text),
+        }
+    }
+
+    /// A reply with a text that was made.
+    pub fn made(status: Status, text: String) -> Reply
+        ensures { view_of result ≡ (status, string_bytes text) }
+    {
+        Reply {
+            status,
+            text: Wording::Made(text),
+        }
     }
 }
 
@@ -121,5 +156,5 @@ pub fn report(
 {
     let (status, end) = end_of_search(alloc, view, ended)?;
     end_text(&end, ended.steps, &mut text)?;
-    Ok(Reply { status, text })
+    Ok(Reply::made(status, text))
 }

@@ -8,7 +8,7 @@ use std::env;
 use std::io::ErrorKind;
 use std::process::ExitCode;
 use tp_outside::{FileShelf, OutSink};
-use tp_top::run::{Status, run};
+use tp_top::{Status, run};
 
 /// The exit status where a word isn't text in UTF-8.
 const NOT_TEXT: u8 = 10;

@@ -1,7 +1,7 @@
 //! Runs with ample memory: what is printed, and how they end.
 ghost use Rattle.std.specs.Prelude.{◌<◌};
 
-use crate::run::{Status, run};
+use crate::program::{Status, run};
 use std::alloc::{AllocError, Global};
 use std::test::Fail;
 use tp_outside::{MemShelf, MemSink};

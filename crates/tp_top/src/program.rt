@@ -1,8 +1,8 @@
 //! The whole program as one call.
 
-ghost use Rattle.std.specs.Prelude.{◌≡◌, ◌≤◌, IfOk};
+ghost use Rattle.std.specs.Prelude.{◌≡◌, ◌+◌, ◌≤◌, IfOk, OnErr};
 ghost use Rattle.std.specs.Option.{option_map};
-ghost use Rattle.tp_top.specs.Ended.{number_of, words_of, Ended, Prepared};
+ghost use Rattle.tp_top.specs.Ended.{number_of, words_of, Ended, Prepared, WasRead};
 ghost use Rattle.tp_top.specs.Expected.{is_plain as is_plain_of, request};
 ghost use Rattle.tp_top.specs.Replies.{view_of};
 
@@ -12,7 +12,7 @@ mod tests;
 use crate::answer::answer;
 use crate::report::Reply;
 use std::alloc::Global;
-use tp_outside::{ReadError, Shelf, Sink, read_all, write_all};
+use tp_outside::{LONGEST_TEXT, ReadError, Shelf, Sink, read_all, write_all};
 use tp_terms::NoMemory;
 
 /// How a run ends. The number of each, from 0, is the exit status of the program.
@@ -79,24 +79,25 @@ fn request_of(words: &[String]) -> Option<(&str, &str)>
 fn prepare<S: Shelf>(alloc: Global, words: &[String], shelf: &mut S) -> Result<Reply, NoMemory>
     ensures held_stays { S.held shelf.new ≡ S.held shelf.old }
     ensures never_falls { S.faults shelf.old ≤ S.faults shelf.new }
+    ensures read_once { S.given shelf.new ≤ S.given shelf.old + (LONGEST_TEXT + 1) }
+    ensures refused { OnErr result (WasRead (request (words_of words.now)) (S.held shelf.old)
+        (S.faults shelf.old) (S.faults shelf.new)) }
     ensures reply { IfOk result (λ reply.
         Prepared (view_of reply) (words_of words.now) (S.held shelf.old) (S.faults shelf.old) (S.faults shelf.new)) }
 {
     let Some((model, goal)) = request_of(words) else {
-        return Reply::fixed(
-            alloc,
+        return Ok(Reply::fixed(
             Status::Usage,
             "usage: tprolog MODEL GOAL [options]\n",
-        );
+        ));
     };
     match read_all(alloc, shelf, model) {
         Ok(text) => answer(alloc, &text, goal),
-        Err(ReadError::Fault) => Reply::fixed(alloc, Status::Read, "read fault\n"),
-        Err(ReadError::TooLong) => Reply::fixed(
-            alloc,
+        Err(ReadError::Fault) => Ok(Reply::fixed(Status::Read, "read fault\n")),
+        Err(ReadError::TooLong) => Ok(Reply::fixed(
             Status::Model,
             "model refused: more than 16777216 bytes\n",
-        ),
+        )),
         Err(ReadError::NoMemory) => Err(NoMemory),
     }
 }
@@ -113,6 +114,7 @@ pub fn run<S: Shelf, W: Sink>(
 ) -> Status
     ensures held_stays { S.held shelf.new ≡ S.held shelf.old }
     ensures reads_never_fall { S.faults shelf.old ≤ S.faults shelf.new }
+    ensures read_once { S.given shelf.new ≤ S.given shelf.old + (LONGEST_TEXT + 1) }
     ensures writes_never_fall { W.faults sink.old ≤ W.faults sink.new }
     ensures ended { Ended (record {
       held = S.held shelf.old;
