@@ -6,7 +6,7 @@ use Rattle.tp_terms.specs.declared.cells.Cell.TheVariants as cell
 use Rattle.tp_terms.specs.Shown.{StandsBefore}
 use Rattle.tp_store.specs.declared.copy.Task.{Task}
 use Rattle.tp_store.specs.declared.copy.Task.TheVariants.{Copy}
-use Rattle.tp_store.specs.Contents.{Contents, AddsCells, with_cell}
+use Rattle.tp_store.specs.Contents.{Contents, with_cell}
 use Rattle.tp_store.specs.declared.chains.Chains.{Chains}
 use Rattle.tp_store.specs.Chain.{IsChains, contents_of}
 use Rattle.tp_store.specs.Copy.{copies, AreReady}

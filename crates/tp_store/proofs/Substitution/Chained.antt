@@ -11,7 +11,7 @@ use Rattle.tp_terms.specs.Binds.{Bindings, bound_in}
 use Rattle.tp_meaning.specs.Subst.{Subst, IsSubst, value_at, apply, extended, for_one, bound_to}
 use Rattle.tp_meaning.proofs.Unify.{differ, value-extended, unbound, put-none, mapped-none, subst_extended, free_applied, replaced-itself}
 use Rattle.tp_meaning.proofs.Complete.{apply-extended}
-use Rattle.tp_store.specs.Contents.{Contents, chained, Adds, AreChained, AreNumbered, IsStore, IsNumbered}
+use Rattle.tp_store.specs.Contents.{Contents, chained, Adds, AreChained, IsStore}
 use Rattle.tp_store.specs.Chain.{IsTable, LeadsOn, rank}
 
 -- ---- what a binding says of its variable
