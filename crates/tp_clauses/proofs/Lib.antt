@@ -1,10 +1,3 @@
-pub mod IndexLemmas
-pub mod MovedLemmas
-pub mod KindLemmas
-pub mod DirectiveLemmas
-pub mod PartsLemmas
-pub mod LoadLemmas
-pub mod OccursLemmas
-pub mod TermLemmas
-pub mod ReadingLemmas
-pub mod BaseLemmas
+pub mod Loading
+pub mod Taking
+pub mod Clauses

@@ -10,7 +10,8 @@ use Rattle.tp_clauses.specs.Parts.{Longer}
 use Rattle.tp_clauses.specs.declared.parts.Parts.{Parts}
 
 -- under a table of names a place shows the body that another showed, before cells were added
-pub record IsBodyOf (names : List Name) (old new : List Cell) (place : Ref) (found : Option Ref) : Type 0 where
+pub record IsBodyOf (names : List Name) (old new : List Cell) (place : Ref)
+    (found : Option Ref) : Type 0 where
   pub named : AreNamed (length names) new
   pub same : body (shows names old place.at) ≡ option_map (λ p. shows names new p.at) found
 

@@ -30,11 +30,14 @@ head_args t = NoMore
 
 -- a clause by its head's term
 abbrev pub clause_by : Term → Option Term → ℕ → Clause
-clause_by head body vars = record { name = head_name head; args = head_args head; body = body; vars = vars }
+clause_by head body vars =
+    record { name = head_name head; args = head_args head; body = body; vars = vars }
 
 -- the clause that a view shows
 abbrev pub clause_of : List Name → List Cell → ClauseView → Clause
-clause_of names cells v = clause_by (shows names cells v.head.at) (option_map (λ place. shows names cells place.at) v.body) v.vars
+clause_of names cells v =
+    clause_by (shows names cells v.head.at)
+    (option_map (λ place. shows names cells place.at) v.body) v.vars
 
 -- the clauses in text order
 abbrev pub base_of : List Name → Contents → Base
@@ -53,7 +56,8 @@ is_of name arity cells v = is_of_by name arity (slice_get cells v.head.at)
 abbrev pub places_from : AtomId → ℕ → List Cell → ℕ → List ClauseView → List ClauseId
 places_from name arity cells at [] = []
 places_from name arity cells at (v ∷ vs) =
-    if is_of name arity cells v then record { at = at } ∷ places_from name arity cells (suc at) vs else places_from name arity cells (suc at) vs
+    if is_of name arity cells v then record { at = at } ∷ places_from name arity cells (suc at) vs
+    else places_from name arity cells (suc at) vs
 
 abbrev pub places_of : AtomId → ℕ → Contents → List ClauseId
 places_of name arity c = places_from name arity c.cells 0 c.clauses
@@ -68,7 +72,8 @@ IsHead c = ⊥
 abbrev pub AreBelow : List Cell → ℕ → Ref → Type 0
 AreBelow cells vars place = (v : ℕ) → occurs v (shows [] cells place.at) ≡ true → v < vars
 
--- a clause's parts are places of the cells, its head names a predicate, and its variables are below their number
+-- a clause's parts are places of the cells, its head names a predicate, and its variables are below
+-- their number
 pub record ViewFits (cells : List Cell) (v : ClauseView) : Type 0 where
   pub head : v.head.at < length cells
   pub named : IsHead (slice_get cells v.head.at)

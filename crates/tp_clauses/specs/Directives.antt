@@ -10,7 +10,8 @@ with_first name (Some names) = Some (name ∷ names)
 -- the names in a list of atoms
 abbrev pub listed_names : Term → Option (List Name)
 listed_names (Atom a) = if names_eq a (codes "[]") then Some [] else None
-listed_names (Comp f (More (Atom a) (More rest NoMore))) = if names_eq f (codes ".") then with_first a (listed_names rest) else None
+listed_names (Comp f (More (Atom a) (More rest NoMore))) =
+    if names_eq f (codes ".") then with_first a (listed_names rest) else None
 listed_names t = None
 
 -- an atom by itself, or a list of atoms
@@ -26,7 +27,8 @@ allows (pos p) kind = nat_le p 1200 && is_some (type_of kind)
 -- the table with each of these names added in order
 abbrev pub add_each : ℤ → Name → List Name → Table → Option Table
 add_each p kind [] t = Some t
-add_each p kind (name ∷ names) t = elim (add_op p kind name t) [ Ok u ↦ add_each p kind names u | Err fault ↦ None ]
+add_each p kind (name ∷ names) t =
+    elim (add_op p kind name t) [ Ok u ↦ add_each p kind names u | Err fault ↦ None ]
 
 abbrev pub add_names : ℤ → Name → Option (List Name) → Table → Option Table
 add_names p kind None t = None
@@ -34,5 +36,6 @@ add_names p kind (Some names) t = if allows p kind then add_each p kind names t 
 
 -- the table after a directive, none where it isn't one that may be given
 abbrev pub directive : Term → Table → Option Table
-directive (Comp f (More (Int p) (More (Atom kind) (More names NoMore)))) t = if names_eq f (codes "op") then add_names p kind (op_names names) t else None
+directive (Comp f (More (Int p) (More (Atom kind) (More names NoMore)))) t =
+    if names_eq f (codes "op") then add_names p kind (op_names names) t else None
 directive goal t = None

@@ -18,10 +18,16 @@ abbrev pub is_atom : AtomId → AtomId → Bool
 is_atom a b = nat_eq a.at b.at
 
 abbrev pub unary_read : AtomId → Ref → ReadKind
-unary_read name goal = if is_atom name NECK then kind.Directive goal else if is_atom name QUERY then kind.Query else kind.Fact
+unary_read name goal =
+    if is_atom name NECK then kind.Directive goal
+    else if is_atom name QUERY then kind.Query
+    else kind.Fact
 
 abbrev pub binary_read : AtomId → Ref → Ref → ReadKind
-binary_read name left right = if is_atom name NECK then kind.Rule left right else if is_atom name GRAMMAR then kind.Grammar else kind.Fact
+binary_read name left right =
+    if is_atom name NECK then kind.Rule left right
+    else if is_atom name GRAMMAR then kind.Grammar
+    else kind.Fact
 
 -- the place of an argument behind the first
 abbrev pub behind : Ref → ℕ → Ref
@@ -30,7 +36,9 @@ behind first n = record { at = first.at + n }
 -- what a read term is, by its cell
 abbrev pub read_as : Option Cell → ReadKind
 read_as (Some (cell.Comp name first count)) =
-    if nat_eq count 1 then unary_read name first else if nat_eq count 2 then binary_read name first (behind first 1) else kind.Fact
+    if nat_eq count 1 then unary_read name first
+    else if nat_eq count 2 then binary_read name first (behind first 1)
+    else kind.Fact
 read_as c = kind.Fact
 
 -- the name and the number of arguments of a head, where the cell is one

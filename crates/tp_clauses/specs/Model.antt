@@ -45,7 +45,9 @@ pub record Model : Type 0 where
 -- ---- clauses
 
 abbrev pub headed : Name → Terms → ℕ → Option Term → Result Clause Cause
-headed f ts vars b = if is_reserved f (count_of ts) then Err cause.Builtin else Ok (record { name = f; args = ts; body = b; vars = vars })
+headed f ts vars b =
+    if is_reserved f (count_of ts) then Err cause.Builtin
+    else Ok (record { name = f; args = ts; body = b; vars = vars })
 
 -- a clause with a head and a body, where it has one
 abbrev pub with_head : Term → ℕ → Option Term → Result Clause Cause
@@ -66,7 +68,8 @@ rule head b vars = with_body (body b) (with_head head vars (body b))
 
 -- ---- read terms
 
--- what a read term is: a directive, with the table after it where it may be given, or a clause or its refusal
+-- what a read term is: a directive, with the table after it where it may be given, or a clause or
+-- its refusal
 pub data Kind : Type 0 where
   Directive : Option Table → Kind
   OfClause : Result Clause Cause → Kind
@@ -115,10 +118,12 @@ by_token n ops (Err fault) = Err (refused_read n (refused_token fault))
 by_token n ops (Ok None) = Ok (record { clauses = []; table = ops })
 by_token n ops (Ok (Some token)) = Err (refusal n token.from cause.Many)
 
--- The model of the text from a byte on, of which so many read terms may come; the first of them has the number n.
+-- The model of the text from a byte on, of which so many read terms may come; the first of them has
+-- the number n.
 unfoldable pub model_from : ℕ → ℕ → List ℕ → Rest
 model_from zero n text ops at = by_token n ops (next text at)
-model_from (suc more) n text ops at = by_read (model_from more (n + 1) text) n ops (clause_of ops text at)
+model_from (suc more) n text ops at =
+    by_read (model_from more (n + 1) text) n ops (clause_of ops text at)
 
 -- the most read terms of a model, directives counted
 unfoldable pub most_terms : ℕ
@@ -129,4 +134,6 @@ refused_bytes bytes = refusal 0 (utf8_valid_len bytes) cause.Utf8
 
 -- the model of a text, which must be UTF-8
 unfoldable pub model : List ℕ → Result Model Refusal
-model bytes = if is_utf8 bytes then model_from most_terms 1 bytes start_table 0 else Err (refused_bytes bytes)
+model bytes =
+    if is_utf8 bytes then model_from most_terms 1 bytes start_table 0
+    else Err (refused_bytes bytes)

@@ -20,4 +20,5 @@ CanMove by c = Unit {0}
 
 -- a clause whose places are moved on
 abbrev pub moved_view : ℕ → ClauseView → ClauseView
-moved_view by v = record { head = place_on by v.head; body = option_map (place_on by) v.body; vars = v.vars }
+moved_view by v =
+    record { head = place_on by v.head; body = option_map (place_on by) v.body; vars = v.vars }

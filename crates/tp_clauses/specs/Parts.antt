@@ -13,7 +13,8 @@ use Rattle.tp_clauses.specs.declared.parts.Parts.{Parts}
 abbrev pub contents_of : Parts → Contents
 contents_of p = record { cells = p.store.cells; clauses = p.clauses.items; ops = p.ops }
 
--- the clauses are a base, the index has the places of each name and number of arguments, and no variable is bound
+-- the clauses are a base, the index has the places of each name and number of arguments, and no
+-- variable is bound
 pub record IsParts (p : Parts) : Type 0 where
   pub base : IsBase (contents_of p)
   pub index : (name : AtomId) (arity : ℕ) →
@@ -39,4 +40,6 @@ pub record AddsClause (old new : Parts) (v : ClauseView) : Type 0 where
   pub parts : IsParts new
   pub cells : new.store.cells ≡ old.store.cells
   pub ops : new.ops ≡ old.ops
-  pub clauses : (names : List Name) → base_of names (contents_of new) ≡ base_of names (contents_of old) ++ clause_of names old.store.cells v ∷ []
+  pub clauses : (names : List Name) →
+      base_of names (contents_of new) ≡ base_of names (contents_of old)
+      ++ clause_of names old.store.cells v ∷ []

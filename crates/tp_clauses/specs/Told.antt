@@ -53,7 +53,9 @@ added_or_none (Err fault) = None
 
 -- the types, by the atoms of the start
 abbrev pub is_type_atom : AtomId → Bool
-is_type_atom kind = (((is_atom kind XFX || is_atom kind XFY) || is_atom kind YFX) || is_atom kind FY) || is_atom kind FX
+is_type_atom kind =
+    (((is_atom kind XFX || is_atom kind XFY) || is_atom kind YFX) || is_atom kind FY)
+    || is_atom kind FX
 
 abbrev pub allows_atom : ℤ → AtomId → Bool
 allows_atom (negsuc n) kind = false
@@ -66,7 +68,10 @@ element_part rest c = part.Other
 
 abbrev pub list_part : (ℕ → Option Cell) → Option Cell → ListPart
 list_part at (Some (cell.Atom name)) = if is_atom name EMPTY_LIST then part.End else part.Other
-list_part at (Some (cell.Comp name first count)) = if is_atom name LIST_CELL && nat_eq count 2 then element_part (record { at = first.at + 1 }) (at first.at) else part.Other
+list_part at (Some (cell.Comp name first count)) =
+    if is_atom name LIST_CELL && nat_eq count 2
+    then element_part (record { at = first.at + 1 }) (at first.at)
+    else part.Other
 list_part at c = part.Other
 
 -- a name alone that is no list
@@ -81,13 +86,16 @@ each_added p kind (Some names) t = add_each p kind names t
 
 -- operators of a priority and a type, by the cells of these
 abbrev pub typed : Ref → Option Cell → Option Cell → Option Operators
-typed names (Some (cell.Int p)) (Some (cell.Atom kind)) = Some (record { priority = p; kind = kind; names = names })
+typed names (Some (cell.Int p)) (Some (cell.Atom kind)) =
+    Some (record { priority = p; kind = kind; names = names })
 typed names p kind = None
 
 -- what a cell adds, where it is `op` with a priority and a type
 abbrev pub operators_at : (ℕ → Option Cell) → Option Cell → Option Operators
 operators_at at (Some (cell.Comp name first count)) =
-    if is_atom name OP && nat_eq count 3 then typed (record { at = first.at + 2 }) (at first.at) (at (first.at + 1)) else None
+    if is_atom name OP && nat_eq count 3
+    then typed (record { at = first.at + 2 }) (at first.at) (at (first.at + 1))
+    else None
 operators_at at c = None
 
 -- memory may be wanted for a directive: it gives operators a priority and a type that they may have
@@ -105,7 +113,8 @@ outcome ops (OfClause (Err c)) = Err c
 outcome ops (OfClause (Ok c)) = Ok (ops, c ∷ [])
 
 -- the clauses and the table of parts, with what a read term adds
-pub record Taken (names : List Name) (old new : Parts) (r : Result (Table × Base) Cause) : Type 0 where
+pub record Taken (names : List Name) (old new : Parts)
+    (r : Result (Table × Base) Cause) : Type 0 where
   pub more : Base
   pub adds : r ≡ Ok (table_of new.ops, more)
   pub clauses : base_of names (contents_of new) ≡ base_of names (contents_of old) ++ more
@@ -113,7 +122,8 @@ pub record Taken (names : List Name) (old new : Parts) (r : Result (Table × Bas
   pub named : AreNamed (length names) new.store.cells
 
 -- what taking a term answers, where memory wasn't refused
-abbrev pub TellsTerm : {A : Type 0} → List Name → Parts → Parts → Result A TermFault → Result (Table × Base) Cause → Type 0
+abbrev pub TellsTerm : {A : Type 0} → List Name → Parts → Parts → Result A TermFault →
+    Result (Table × Base) Cause → Type 0
 TellsTerm names old new (Ok done) r = Taken names old new r
 TellsTerm names old new (Err (Refused c)) r = r ≡ Err c
 TellsTerm names old new (Err NoMemory) r = Unit {0}
@@ -121,26 +131,32 @@ TellsTerm names old new (Err NoMemory) r = Unit {0}
 -- a clause may have this head
 abbrev pub MayDefine : List Cell → Ref → Type 0
 MayDefine cells head =
-    (key : Key) × ((names : List Name) → HasNames names cells → head_key names (slice_get cells head.at) ≡ Ok key)
+    (key : Key) ×
+    ((names : List Name) → HasNames names cells →
+    head_key names (slice_get cells head.at) ≡ Ok key)
 
 -- no integer, which is no goal
 abbrev pub IsNoInteger : Option Cell → Type 0
 IsNoInteger (Some (cell.Int n)) = ⊥
 IsNoInteger c = Unit {0}
 
--- Memory may be wanted to take a read term: what is refused without looking into a body or a list of names is refused
--- before.
+-- Memory may be wanted to take a read term: what is refused without looking into a body or a list
+-- of names is refused before.
 abbrev pub MayTake : List Cell → Ref → ReadKind → Type 0
-MayTake cells root (kind.Directive goal) = MayAdd (operators_at (slice_get cells) (slice_get cells goal.at))
+MayTake cells root (kind.Directive goal) =
+    MayAdd (operators_at (slice_get cells) (slice_get cells goal.at))
 MayTake cells root kind.Query = ⊥
 MayTake cells root kind.Grammar = ⊥
-MayTake cells root (kind.Rule head body) = MayDefine cells head × IsNoInteger (slice_get cells body.at)
+MayTake cells root (kind.Rule head body) =
+    MayDefine cells head × IsNoInteger (slice_get cells body.at)
 MayTake cells root kind.Fact = MayDefine cells root
 
 -- the same with the number of the read term and its first byte
-abbrev pub TellsRead : {A : Type 0} → List Name → Parts → Parts → ℕ → ℕ → Result A LoadFault → Result (Table × Base) Cause → Type 0
+abbrev pub TellsRead : {A : Type 0} → List Name → Parts → Parts → ℕ → ℕ → Result A LoadFault →
+    Result (Table × Base) Cause → Type 0
 TellsRead names old new number from (Ok done) r = Taken names old new r
-TellsRead names old new number from (Err (load.Refused clause byte c)) r = (clause ≡ number) × (byte ≡ from) × (r ≡ Err c)
+TellsRead names old new number from (Err (load.Refused clause byte c)) r =
+    (clause ≡ number) × (byte ≡ from) × (r ≡ Err c)
 TellsRead names old new number from (Err load.NoMemory) r = Unit {0}
 
 -- ---- texts
@@ -151,37 +167,52 @@ after cs (Err r) = Err r
 after cs (Ok m) = Ok (record { clauses = cs ++ m.clauses; table = m.table })
 
 -- one read term further: what stood and what remains is the same model
-pub record Steps (names : List Name) (old new : Parts) (text : List ℕ) (at number to : ℕ) : Type 0 where
+pub record Steps (names : List Name) (old new : Parts) (text : List ℕ)
+    (at number to : ℕ) : Type 0 where
   pub place : IsCharBoundary text to
   pub parts : IsParts new
   pub named : AreNamed (length names) new.store.cells
-  pub comes : Comes text number (table_of old.ops) at → Comes text (number + 1) (table_of new.ops) to
-  pub model : (rest : Rest) → after (base_of names (contents_of old)) (by_read rest number (table_of old.ops) (clause_of (table_of old.ops) text at)) ≡ after (base_of names (contents_of new)) (rest (table_of new.ops) to)
+  pub comes : Comes text number (table_of old.ops) at →
+      Comes text (number + 1) (table_of new.ops) to
+  pub model : (rest : Rest) →
+      after (base_of names (contents_of old))
+      (by_read rest number (table_of old.ops) (clause_of (table_of old.ops) text at))
+      ≡ after (base_of names (contents_of new)) (rest (table_of new.ops) to)
 
-abbrev pub TellsStep : List Name → Parts → Parts → List ℕ → ℕ → ℕ → Result (Option ℕ) LoadFault → Type 0
-TellsStep names old new text at number (Ok None) = (clause_of (table_of old.ops) text at ≡ Ok None) × (new ≡ old)
+abbrev pub TellsStep : List Name → Parts → Parts → List ℕ → ℕ → ℕ → Result (Option ℕ) LoadFault →
+    Type 0
+TellsStep names old new text at number (Ok None) =
+    (clause_of (table_of old.ops) text at ≡ Ok None) × (new ≡ old)
 TellsStep names old new text at number (Ok (Some to)) = Steps names old new text at number to
-TellsStep names old new text at number (Err (load.Refused clause byte c)) = (rest : Rest) → by_read rest number (table_of old.ops) (clause_of (table_of old.ops) text at) ≡ Err (refusal clause byte c)
+TellsStep names old new text at number (Err (load.Refused clause byte c)) =
+    (rest : Rest) →
+    by_read rest number (table_of old.ops) (clause_of (table_of old.ops) text at)
+    ≡ Err (refusal clause byte c)
 TellsStep names old new text at number (Err load.NoMemory) = Unit {0}
 
 -- what looking at the next token answers: it takes no memory
-abbrev pub TellsToken : ℕ → Result (Option Token) LoadFault → Result (Option Token) LexFault → Type 0
+abbrev pub TellsToken : ℕ → Result (Option Token) LoadFault → Result (Option Token) LexFault →
+    Type 0
 TellsToken number (Ok found) r = r ≡ Ok found
 TellsToken number (Err (load.Refused clause byte c)) r =
-    (fault : LexFault) × (r ≡ Err fault) × (refusal clause byte c ≡ refused_read number (refused_token fault))
+    (fault : LexFault) × (r ≡ Err fault) ×
+    (refusal clause byte c ≡ refused_read number (refused_token fault))
 TellsToken number (Err load.NoMemory) r = ⊥
 
 -- what seeing the end answers: it takes no memory
-abbrev pub TellsEnd : {A : Type 0} → ℕ → Result A LoadFault → Result (Option Token) LexFault → Type 0
+abbrev pub TellsEnd : {A : Type 0} → ℕ → Result A LoadFault → Result (Option Token) LexFault →
+    Type 0
 TellsEnd number (Ok done) r = r ≡ Ok None
-TellsEnd number (Err (load.Refused clause byte c)) r = (ops : Table) → by_token number ops r ≡ Err (refusal clause byte c)
+TellsEnd number (Err (load.Refused clause byte c)) r =
+    (ops : Table) → by_token number ops r ≡ Err (refusal clause byte c)
 TellsEnd number (Err load.NoMemory) r = ⊥
 
 -- what is begun with: no clause yet, where the first token isn't refused
 abbrev pub TellsBegin : Result Parts LoadFault → Result (Option Token) LexFault → Type 0
 TellsBegin (Ok p) r = IsEmpty p
 TellsBegin (Err (load.Refused clause byte c)) r =
-    (fault : LexFault) × (r ≡ Err fault) × (refusal clause byte c ≡ refused_read 1 (refused_token fault))
+    (fault : LexFault) × (r ≡ Err fault) ×
+    (refusal clause byte c ≡ refused_read 1 (refused_token fault))
 TellsBegin (Err load.NoMemory) r = is_ok r ≡ true
 
 -- the parts of a model under a table of names

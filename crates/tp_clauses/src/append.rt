@@ -57,8 +57,8 @@ fn place(store: &mut Store, cell: Cell) -> Result<(), NoMemory>
     Ok(())
 }
 
-/// Adds all cells of `more` behind the others, and answers how far their places are moved on. Want of
-/// memory leaves some of them.
+/// Adds all cells of `more` behind the others, and answers how far their places are moved on. Want
+/// of memory leaves some of them.
 pub fn append(store: &mut Store, more: &Cells) -> Result<usize, NoMemory>
     ensures by { IfOk result (λ by. by ≡ length store.old.cells) }
     ensures cells { OnOk result (store.new.cells ≡

@@ -1,13 +1,15 @@
 //! The base of clauses.
 
 ghost use Rattle.std.specs.Prelude.{◌≡◌, ◌<◌, List, [], length, map, slice_get, true, Some, Err, IfOk, IfSome, MatchOption};
+ghost use Rattle.std.specs.List.{AllByRecursion};
 ghost use Rattle.std.specs.Str.{is_utf8};
 ghost use Rattle.tp_terms.specs.Term.{Name};
 ghost use Rattle.tp_terms.specs.Names.{AreDistinct, Grows};
 ghost use Rattle.tp_terms.specs.Shown.{AreNamed, name_at};
 ghost use Rattle.tp_meaning.specs.Clauses.{predicate};
+ghost use Rattle.tp_meaning.specs.Valid.{ClauseFits};
 ghost use Rattle.tp_clauses.specs.Contents.{IsBase, ViewFits, base_of, clauses_at, places_of};
-ghost use Rattle.tp_clauses.specs.Loaded.{AsksMemory, Tells};
+ghost use Rattle.tp_clauses.specs.Loaded.{AsksMemory, HasBody, Tells};
 ghost use Rattle.tp_clauses.specs.Model.{model};
 
 use crate::fault::{Cause, LoadFault};
@@ -59,12 +61,16 @@ impl Base {
     /// The base of a text, as docs/LANGUAGE.md defines it (ISO/IEC 13211-1, clause 7.4).
     ///
     /// # Errors
-    /// `Refused` with the clause's number, the byte and the cause where the text has no model, and `NoMemory` where
-    /// memory was refused. Both may leave new names in `atoms`; no name changes its place. `NoMemory` never stands for a
-    /// text that isn't UTF-8, nor for a read term that is refused at its first token.
+    /// `Refused` with the clause's number, the byte and the cause where the text has no model, and
+    /// `NoMemory` where memory was refused. Both may leave new names in `atoms`; no name changes
+    /// its place. `NoMemory` never stands for a text that isn't UTF-8, nor for a read term that is
+    /// refused at its first token.
     pub fn load(alloc: Global, text: &[u8], atoms: &mut Atoms) -> Result<Base, LoadFault>
         ensures model { Tells atoms.new result (model text.now) }
         ensures base { IfOk result IsBase }
+        ensures fit { IfOk result (λ base. (names : List Name) →
+            AllByRecursion ClauseFits (base_of names base)) }
+        ensures bodies { IfOk result (λ base. AllByRecursion HasBody (base_of atoms.new base)) }
         ensures grows { Grows atoms.old atoms.new }
         ensures memory { result ≡ Err LoadFault.NoMemory →
             (is_utf8 text.now ≡ true) × AsksMemory text.now }
@@ -82,13 +88,16 @@ impl Base {
         }
     }
 
-    /// The clauses of a name and a number of arguments, in text order; `None` exactly where there is none. Takes no
-    /// memory.
+    /// The clauses of a name and a number of arguments, in text order; `None` exactly where there
+    /// is none. Takes no memory.
     pub fn clauses(&self, name: AtomId, arity: u8) -> Option<&[ClauseId]>
-        ensures listed { MatchOption result (places_of name arity self.now ≡ []) (λ ids. ids.now ≡ places_of name arity self.now) }
+        ensures listed { MatchOption result (places_of name arity self.now ≡ [])
+            (λ ids. ids.now ≡ places_of name arity self.now) }
         ensures some { IfSome result (λ ids. 0 < length ids.now) }
-        ensures predicate { (names : List Name) → AreDistinct names → AreNamed (length names) self.now.cells → name.at < length names →
-            clauses_at names self.now (places_of name arity self.now) ≡ map Some (predicate (base_of names self.now) (name_at names name.at) arity) }
+        ensures predicate { (names : List Name) → AreDistinct names →
+            AreNamed (length names) self.now.cells → name.at < length names →
+            clauses_at names self.now (places_of name arity self.now) ≡ map Some
+            (predicate (base_of names self.now) (name_at names name.at) arity) }
         ensures base { IsBase self.now }
     {
         let ids = self.parts.index.ids(Key { name, arity });

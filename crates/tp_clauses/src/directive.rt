@@ -54,7 +54,8 @@ pub fn run(cells: &Cells, goal: Ref, atoms: &Atoms, ops: &mut Ops) -> Result<(),
     requires within { goal.at < length cells.now.items }
     requires names { HasNames atoms.now cells.now.items }
     requires built { AreBuilt cells.now.items }
-    ensures told { TellsDirective (table_of ops.new) result (directive (shows atoms.now cells.now.items goal.at) (table_of ops.old)) }
+    ensures told { TellsDirective (table_of ops.new) result
+        (directive (shows atoms.now cells.now.items goal.at) (table_of ops.old)) }
     ensures memory { result ≡ Err TermFault.NoMemory →
         MayAdd (operators_at (slice_get cells.now.items) (slice_get cells.now.items goal.at)) }
 {
@@ -67,7 +68,8 @@ pub fn run(cells: &Cells, goal: Ref, atoms: &Atoms, ops: &mut Ops) -> Result<(),
 /// What the term of a place adds, where it is `op` with a priority and a type.
 fn operators_of(cells: &Cells, goal: Ref) -> Option<Operators>
     requires { goal.at < length cells.now.items }
-    ensures { result ≡ operators_at (slice_get cells.now.items) (slice_get cells.now.items goal.at) }
+    ensures { result ≡ operators_at (slice_get cells.now.items)
+        (slice_get cells.now.items goal.at) }
 {
     match cells.get(goal) {
         Cell::Comp { name, first, count } => {
@@ -110,7 +112,9 @@ fn add_names(
     requires kind { operators.kind.at < length atoms.now }
     requires names { HasNames atoms.now cells.now.items }
     requires built { AreBuilt cells.now.items }
-    ensures told { TellsDirective (table_of ops.new) result (add_names operators.priority (name_at atoms.now operators.kind.at) (op_names (shows atoms.now cells.now.items operators.names.at)) (table_of ops.old)) }
+    ensures told { TellsDirective (table_of ops.new) result
+        (add_names operators.priority (name_at atoms.now operators.kind.at)
+        (op_names (shows atoms.now cells.now.items operators.names.at)) (table_of ops.old)) }
     ensures memory { result ≡ Err TermFault.NoMemory →
         allows_atom operators.priority operators.kind ≡ true }
 {
@@ -157,9 +161,12 @@ fn add_name(
 ) -> Result<(), TermFault>
     requires kind { kind.at < length atoms.now }
     requires name { name.at < length atoms.now }
-    ensures told { TellsDirective (table_of ops.new) result (added_or_none (add_op priority (name_at atoms.now kind.at) (name_at atoms.now name.at) (table_of ops.old))) }
+    ensures told { TellsDirective (table_of ops.new) result
+        (added_or_none (add_op priority (name_at atoms.now kind.at) (name_at atoms.now name.at)
+        (table_of ops.old))) }
     ensures memory { result ≡ Err TermFault.NoMemory → (t : Table) ×
-        (add_op priority (name_at atoms.now kind.at) (name_at atoms.now name.at) (table_of ops.old) ≡ Ok t) }
+        (add_op priority (name_at atoms.now kind.at) (name_at atoms.now name.at) (table_of ops.old)
+        ≡ Ok t) }
 {
     match ops.add(priority, atoms.name(kind), atoms.name(name)) {
         Ok(()) => Ok(()),
@@ -181,7 +188,10 @@ fn add_listed(
     requires kind { operators.kind.at < length atoms.now }
     requires names { HasNames atoms.now cells.now.items }
     requires built { AreBuilt cells.now.items }
-    ensures { TellsDirective (table_of ops.new) result (each_added operators.priority (name_at atoms.now operators.kind.at) (listed_names (shows atoms.now cells.now.items operators.names.at)) (table_of ops.old)) }
+    ensures { TellsDirective (table_of ops.new) result
+        (each_added operators.priority (name_at atoms.now operators.kind.at)
+        (listed_names (shows atoms.now cells.now.items operators.names.at))
+        (table_of ops.old)) }
 {
     let mut rest = operators.names;
     'names: loop {

@@ -28,7 +28,8 @@ impl Index {
 
     /// Adds the place of a clause.
     pub fn add(&mut self, alloc: Global, key: Key, id: ClauseId) -> Result<(), NoMemory>
-        ensures { OnOk result ((k : Key) → ids_in self.new k ≡ (if same_key key k then ids_in self.old k ++ id ∷ [] else ids_in self.old k)) }
+        ensures { OnOk result ((k : Key) → ids_in self.new k ≡
+            (if same_key key k then ids_in self.old k ++ id ∷ [] else ids_in self.old k)) }
     {
         match self.places.get_mut(&key) {
             Some(ids) => ids.push(id)?,

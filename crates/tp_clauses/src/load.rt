@@ -118,7 +118,8 @@ fn refused(number: u64, byte: usize, cause: Cause) -> LoadFault
     }
 }
 
-/// Takes the read term from a byte on, and answers the byte behind it; none where no read term remains.
+/// Takes the read term from a byte on, and answers the byte behind it; none where no read term
+/// remains.
 fn read_next(
     parts: &mut Parts,
     alloc: Global,
@@ -175,7 +176,10 @@ fn take_read(
     requires named { AreNamed (length atoms.now) (read.cells).items }
     requires below { AreBelow (read.cells).items read.vars read.root }
     requires known { AreNamed (length atoms.now) parts.old.store.cells }
-    ensures { TellsRead atoms.now parts.old parts.new number read.from result (outcome (table_of parts.old.ops) (kind_of (table_of parts.old.ops) (shows atoms.now (read.cells).items (read.root).at) read.vars)) }
+    ensures { TellsRead atoms.now parts.old parts.new number read.from result
+        (outcome (table_of parts.old.ops)
+        (kind_of (table_of parts.old.ops)
+        (shows atoms.now (read.cells).items (read.root).at) read.vars)) }
 {
     let (root, vars, from) = (read.root, read.vars, read.from);
     let cells = read.cells;
@@ -204,7 +208,9 @@ fn take_term(
     requires built { AreBuilt cells.now.items }
     requires below { AreBelow cells.now.items vars root }
     requires known { AreNamed (length atoms.now) parts.old.store.cells }
-    ensures told { TellsTerm atoms.now parts.old parts.new result (outcome (table_of parts.old.ops) (kind_of (table_of parts.old.ops) (shows atoms.now cells.now.items root.at) vars)) }
+    ensures told { TellsTerm atoms.now parts.old parts.new result
+        (outcome (table_of parts.old.ops)
+        (kind_of (table_of parts.old.ops) (shows atoms.now cells.now.items root.at) vars)) }
     ensures memory { result ≡ Err TermFault.NoMemory →
         MayTake cells.now.items root (read_as (slice_get cells.now.items root.at)) }
 {
@@ -229,8 +235,11 @@ fn take_fact(
     requires within { head.at < length cells.now.items }
     requires built { AreBuilt cells.now.items }
     requires below { AreBelow cells.now.items vars head }
-    ensures told { (names : List Name) → HasNames names cells.now.items → AreNamed (length names) parts.old.store.cells →
-        TellsTerm names parts.old parts.new result (outcome (table_of parts.old.ops) (OfClause (with_head (shows names cells.now.items head.at) vars None))) }
+    ensures told { (names : List Name) → HasNames names cells.now.items →
+        AreNamed (length names) parts.old.store.cells →
+        TellsTerm names parts.old parts.new result
+        (outcome (table_of parts.old.ops)
+        (OfClause (with_head (shows names cells.now.items head.at) vars None))) }
     ensures memory { result ≡ Err TermFault.NoMemory → MayDefine cells.now.items head }
 {
     match head_key(cells, head) {
@@ -264,8 +273,12 @@ fn take_rule(
     requires nameable { AreNameable parts.old.store.cells cells.now.items }
     requires head_below { AreBelow cells.now.items vars head }
     requires body_below { AreBelow cells.now.items vars body }
-    ensures told { (names : List Name) → HasNames names cells.now.items → AreNamed (length names) parts.old.store.cells →
-        TellsTerm names parts.old parts.new result (outcome (table_of parts.old.ops) (OfClause (rule (shows names cells.now.items head.at) (shows names cells.now.items body.at) vars))) }
+    ensures told { (names : List Name) → HasNames names cells.now.items →
+        AreNamed (length names) parts.old.store.cells →
+        TellsTerm names parts.old parts.new result
+        (outcome (table_of parts.old.ops)
+        (OfClause (rule (shows names cells.now.items head.at)
+        (shows names cells.now.items body.at) vars))) }
     ensures memory { result ≡ Err TermFault.NoMemory →
         MayDefine cells.now.items head × IsNoInteger (slice_get cells.now.items body.at) }
 {
@@ -295,9 +308,14 @@ fn take_body(
     requires nameable { AreNameable parts.old.store.cells cells.now.items }
     requires head_below { AreBelow cells.now.items vars head }
     requires body_below { AreBelow cells.now.items vars body }
-    ensures told { (names : List Name) → HasNames names cells.now.items → AreNamed (length names) parts.old.store.cells →
-        TellsTerm names parts.old parts.new result (outcome (table_of parts.old.ops) (OfClause (rule (shows names cells.now.items head.at) (shows names cells.now.items body.at) vars))) }
-    ensures memory { result ≡ Err TermFault.NoMemory → IsNoInteger (slice_get cells.now.items body.at) }
+    ensures told { (names : List Name) → HasNames names cells.now.items →
+        AreNamed (length names) parts.old.store.cells →
+        TellsTerm names parts.old parts.new result
+        (outcome (table_of parts.old.ops)
+        (OfClause (rule (shows names cells.now.items head.at)
+        (shows names cells.now.items body.at) vars))) }
+    ensures memory { result ≡ Err TermFault.NoMemory →
+        IsNoInteger (slice_get cells.now.items body.at) }
 {
     if let Cell::Int(_) = cells.get(body) {
         return Err(TermFault::Refused(Cause::Body));

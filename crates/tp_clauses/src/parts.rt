@@ -44,8 +44,8 @@ pub fn empty(alloc: Global) -> Result<Parts, NoMemory>
     })
 }
 
-/// Adds all cells of `more` behind the others, and answers how far their places are moved on. Want of
-/// memory leaves some of them.
+/// Adds all cells of `more` behind the others, and answers how far their places are moved on. Want
+/// of memory leaves some of them.
 pub fn add_cells(parts: &mut Parts, more: &Cells) -> Result<usize, NoMemory>
     requires { IsParts parts.old }
     ensures by { IfOk result (λ by. by ≡ length parts.old.store.cells) }

@@ -5,7 +5,8 @@ use std::test::Fail;
 use tp_terms::symbols::CALL;
 use tp_terms::{AtomId, Atoms, Cell};
 
-/// Whether the first and the third clause are those of `p` with one argument, and the second is that of `q`.
+/// Whether the first and the third clause are those of `p` with one argument, and the second is
+/// that of `q`.
 fn lists(base: &Base, p: AtomId, q: AtomId) -> bool {
     base.clauses(p, 1) == Some([ClauseId { at: 0 }, ClauseId { at: 2 }].as_slice())
         && base.clauses(q, 0) == Some([ClauseId { at: 1 }].as_slice())

@@ -92,7 +92,7 @@ abbrev pub IsFollowed : Stepped → ℕ → ℕ → Machine → Option How → M
 IsFollowed r found wanted old how new =
     (t : Outcome World Term) → found ≡ length (found_by r (world_in old) t).answers →
     turned (searched (base_in old)) wanted (answer_by old r) (state_in old) t
-        ≡ turn_to new how (found_by r (world_in old) t)
+    ≡ turn_to new how (found_by r (world_in old) t)
 
 pub record Follows
     (r : Stepped) (found wanted : ℕ) (old : Machine) (how : Option How) (new : Machine)
@@ -127,7 +127,7 @@ IsTurn wanted old c r w how new =
     (t : Outcome World Term) → length t.answers ≡ c.found →
     let m = machine_of (state_in old) t in
     turn_by (searched (base_in old)) wanted (step (base_in old) (world_in old)) m
-        ≡ turn_to new how (found_by r w t)
+    ≡ turn_to new how (found_by r w t)
 
 -- a turn was made
 pub record Turns {A : Type 0}
@@ -173,13 +173,13 @@ abbrev pub KeepsAll : Machine → ℕ → Machine → Tally → List (World × �
 KeepsAll start wanted m c answers n =
     let x = searched (base_in start) in
     total x (machine_of (state_in m) (tally_of c answers)) n wanted
-        ≡ closed (try x (world_in start) (c.steps + n) wanted)
+    ≡ closed (try x (world_in start) (c.steps + n) wanted)
 
 -- as many turns of the definitions' machine lead here
 abbrev pub IsThere : Machine → ℕ → Machine → Tally → List (World × ℕ) → Type 0
 IsThere start wanted m c answers =
     after_turns (searched (base_in start)) wanted c.steps (started (world_in start))
-        ≡ GoesOn (machine_of (state_in m) (tally_of c answers))
+    ≡ GoesOn (machine_of (state_in m) (tally_of c answers))
 
 -- a run under way: these answers were found so far and taken
 pub record IsRun {A : Type 0}

@@ -56,8 +56,8 @@ pub record IsSound (s : Snapshot) : Type 0 where
   pub atoms : AreNamed (length s.names) s.plain.store.cells
   pub procs : AllByRecursion (λ q. q.name.at < length s.names) s.plain.procs
   pub events : AllByRecursion
-    (EventStands (length s.names) (length s.plain.store.cells) (length s.plain.procs))
-    s.plain.events
+      (EventStands (length s.names) (length s.plain.store.cells) (length s.plain.procs))
+      s.plain.events
   pub named : All (λ n. n.number < s.plain.store.vars) s.named
 
 -- an engine: its clauses, its state, the choices that stand open, the newest first, and which call

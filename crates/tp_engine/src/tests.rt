@@ -57,7 +57,10 @@ fn may_step(engine: &Engine<'_>) -> bool
 fn may_rewind(engine: &Engine<'_>) -> bool
     ensures { IsTrue result → MayRewind engine.now.phase }
 {
-    matches!(engine.phase, Phase::Stepped(Stepped::Success | Stepped::Dead(_)))
+    matches!(
+        engine.phase,
+        Phase::Stepped(Stepped::Success | Stepped::Dead(_))
+    )
 }
 
 /// Whether resuming may come.

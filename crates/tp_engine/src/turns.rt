@@ -31,7 +31,7 @@ fn hand_over<A: Answers>(
         answers.new) }
     ensures left { IfErr result (λ fault. (stepped ≡ Stepped.Success)
         × A.leaves answers.old (answer_in (seen_of machine.now tally.found tally.steps))
-            fault answers.new) }
+        fault answers.new) }
     ensures never_falls { A.faults answers.old ≤ A.faults answers.new }
     ensures write { result ≡ Err AnswerFault.Write →
         Rose (A.faults answers.old) (A.faults answers.new) }

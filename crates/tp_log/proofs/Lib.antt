@@ -1,1 +1,2 @@
 pub mod EntryAdded
+pub mod Fronts

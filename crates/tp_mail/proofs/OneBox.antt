@@ -1,13 +1,14 @@
 -- A change of one box of many, and that each act on a box can be taken back.
-use Rattle.std.proofs.Common.{◌≡◌, ◌∙◌, sym, ap, refl, ℕ, zero, suc, ◌-◌, ◌<◌, ◌≤◌, List, [], ◌∷◌, ◌++◌, length, Some, arith, slice_get, slice_set, slice_index_or, IfOk, Result, Ok, Err, length-append}
-use Rattle.std.proofs.lemmas.List.{take_at}
+use Rattle.std.proofs.Common.{◌≡◌, ◌∙◌, sym, ap, refl, ℕ, zero, suc, ◌<◌, ◌≤◌, List, [], ◌∷◌, ◌++◌, length, Some, arith, slice_get, slice_set, slice_index_or, IfOk, Result, Ok, Err}
 use Rattle.std.proofs.lemmas.Option.{same_Some}
 use Rattle.std.specs.List.{insert, remove}
 use Rattle.std.specs.VecDeque.{deque_capacity}
 use Rattle.std.specs.Global.{Global}
 use Rattle.std.specs.declared.collections.VecDeque.{VecDeque}
 use Rattle.tp_terms.specs.declared.cells.Ref.{Ref}
-use Rattle.tp_mail.specs.Mail.{at_box, front, AllAtMost, Receives, boxes_of, rooms_of, mail_of}
+use Rattle.tp_log.specs.Front.{front}
+use Rattle.tp_log.proofs.Fronts.{front-push}
+use Rattle.tp_mail.specs.Mail.{at_box, AllAtMost, Receives, boxes_of, rooms_of, mail_of}
 
 -- a box as it is kept
 abbrev Ring : Type 0
@@ -46,9 +47,6 @@ at_box_back f g [] pid e = refl
 at_box_back f g (b ∷ bs) zero e = ap (λ x. x ∷ bs) e
 at_box_back f g (b ∷ bs) (suc pid) e = ap (λ xs. b ∷ xs) (at_box_back f g bs pid e)
 
-pub front_push : {X : Type 0} (xs : List X) (x : X) → front (xs ++ x ∷ []) ≡ xs
-front_push xs x = take_at xs (x ∷ []) (length (xs ++ x ∷ []) - 1) (omega (arith, length-append xs (x ∷ [])))
-
 pub insert_removed : (xs : List Ref) (i : ℕ) (x : Ref) → slice_get xs i ≡ Some x → insert (remove xs i) i x ≡ xs
 insert_removed [] i x e = absurd (cc)
 insert_removed (y ∷ xs) zero x e = ap (λ z. z ∷ xs) (sym (same_Some y x e))
@@ -74,7 +72,7 @@ rooms_more (x ∷ l) zero old new p read e = (rw (← read) e, at-most-same (roo
 rooms_more (x ∷ l) (suc pid) old new p read e = (omega arith, rooms_more l pid old new (omega arith) read e)
 
 pub send_back : (bs : List (List Ref)) (pid : ℕ) (message : Ref) → at_box pid front (at_box pid (λ b. b ++ message ∷ []) bs) ≡ bs
-send_back bs pid message = at_box_back (λ b. b ++ message ∷ []) front bs pid (front_push (slice_index_or bs pid []) message)
+send_back bs pid message = at_box_back (λ b. b ++ message ∷ []) front bs pid (front-push (slice_index_or bs pid []) message)
 
 pub receive_back : (bs : List (List Ref)) (pid place : ℕ) (m : Ref) → slice_get (slice_index_or bs pid []) place ≡ Some m → at_box pid (λ b. insert b place m) (at_box pid (λ b. remove b place) bs) ≡ bs
 receive_back bs pid place m e = at_box_back (λ b. remove b place) (λ b. insert b place m) bs pid (insert_removed (slice_index_or bs pid []) place m e)

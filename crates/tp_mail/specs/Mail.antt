@@ -1,5 +1,5 @@
 -- Boxes of messages, and what a change of one of them makes of all.
-use Rattle.std.specs.Prelude.{◌≡◌, ℕ, zero, suc, ◌-◌, ◌<◌, ◌≤◌, List, [], ◌∷◌, length, take, map, Some, slice_get, slice_index_or}
+use Rattle.std.specs.Prelude.{◌≡◌, ℕ, zero, suc, ◌<◌, ◌≤◌, List, [], ◌∷◌, length, map, Some, slice_get, slice_index_or}
 use Rattle.std.specs.List.{insert, remove}
 use Rattle.std.specs.VecDeque.{deque_capacity}
 use Rattle.std.specs.Global.{Global}
@@ -24,10 +24,6 @@ abbrev pub at_box : ℕ → (List Ref → List Ref) → List (List Ref) → List
 at_box pid f [] = []
 at_box zero f (b ∷ boxes) = f b ∷ boxes
 at_box (suc pid) f (b ∷ boxes) = b ∷ at_box pid f boxes
-
--- a list without its last element
-abbrev pub front : {X : Type 0} → List X → List X
-front xs = take (length xs - 1) xs
 
 -- two lists of one length, the first at each place at most the second
 abbrev pub AllAtMost : List ℕ → List ℕ → Type 0

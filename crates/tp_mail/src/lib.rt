@@ -3,7 +3,8 @@
 
 ghost use Rattle.std.specs.Prelude.{◌≡◌, ℕ, ◌+◌, ◌-◌, ◌<◌, ◌≤◌, [], ◌∷◌, ◌++◌, length, map, OnOk, OnErr, IfOk, IfSome, IfNone, slice_get};
 ghost use Rattle.std.specs.List.{insert, remove};
-ghost use Rattle.tp_mail.specs.Mail.{box_of, room_of, at_box, front, AllAtMost, Receives};
+ghost use Rattle.tp_log.specs.Front.{front};
+ghost use Rattle.tp_mail.specs.Mail.{box_of, room_of, at_box, AllAtMost, Receives};
 
 mod rings;
 #[cfg(test)]

@@ -13,4 +13,4 @@ ReservedAreOwn =
     (name : Name) (args : Terms) →
     IsTrue (is_reserved name (count_of args))
     ↔ ((base : Base) (t : Turn) (b : ℕ) →
-      goal_step base t b (term_of name args) ≡ goal_step [] t b (term_of name args))
+    goal_step base t b (term_of name args) ≡ goal_step [] t b (term_of name args))

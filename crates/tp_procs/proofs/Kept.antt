@@ -1,5 +1,5 @@
 -- Names and the number of live processes, when a process comes, goes or changes.
-use Rattle.std.proofs.Common.{◌≡◌, ◌∙◌, sym, ap, refl, subst, ◌-◌, take, if◌then◌else◌, ℕ, zero, suc, ◌+◌, ◌≤◌, Bool, true, false, cond, ◌||◌, nat_eq, List, [], ◌∷◌, ◌++◌, length, map, Option, Some, None, IfSome, slice_get, slice_set, position, count_by, arith, length-append}
+use Rattle.std.proofs.Common.{◌≡◌, ◌∙◌, sym, ap, refl, subst, ◌-◌, take, if◌then◌else◌, ℕ, zero, suc, ◌+◌, ◌≤◌, Bool, true, false, cond, ◌||◌, nat_eq, List, [], ◌∷◌, ◌++◌, length, map, Option, Some, None, IfSome, slice_get, slice_set, position, count_by, arith}
 use Rattle.std.specs.List.{AllByRecursion, position_from, list_any}
 use Rattle.std.proofs.lemmas.Option.{same_Some}
 use Rattle.std.proofs.lemmas.List.{map-append, length-map, take_at}
@@ -10,7 +10,7 @@ use Rattle.std.proofs.lemmas.Iterator.Adapters.{position_from-zero}
 use Rattle.std.proofs.lemmas.Bool.Decides.{nat_tests}
 use Rattle.tp_terms.specs.declared.cells.AtomId.{AtomId}
 use Rattle.tp_terms.specs.declared.world.Proc.{Proc}
-use Rattle.tp_procs.specs.Processes.{is_live, named, names_of, AreDistinct, front}
+use Rattle.tp_procs.specs.Processes.{is_live, named, names_of, AreDistinct}
 use Rattle.tp_procs.specs.Tree.{IsTree, IsIndexed}
 
 -- ---- names
@@ -140,13 +140,6 @@ indexed-pop ps qs names ns ms live p kept split tree =
       tree = tree;
       count = omega (arith, kept.count, ap (count_by is_live) split, count-push is_live ps p);
     }
-
-front-push : {X : Type 0} (xs : List X) (x : X) → front (xs ++ x ∷ []) ≡ xs
-front-push xs x = take_at xs (x ∷ []) (length (xs ++ x ∷ []) - 1) (omega (arith, length-append xs (x ∷ [])))
-
--- lists that are equal are so without their last elements
-pub same-front : {X : Type 0} (xs ys : List X) (x y : X) → xs ++ x ∷ [] ≡ ys ++ y ∷ [] → xs ≡ ys
-same-front xs ys x y e = sym (front-push xs x) ∙ ap front e ∙ front-push ys y
 
 -- the name of a process that was the last is free
 pub free-front : (ps : List Proc) (p : Proc) → AreDistinct (names_of (ps ++ p ∷ [])) → named p.name ps ≡ None

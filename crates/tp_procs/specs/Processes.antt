@@ -1,5 +1,5 @@
 -- What a scheduler asks of a list of processes.
-use Rattle.std.specs.Prelude.{◌≡◌, ℕ, ◌-◌, Bool, true, false, nat_eq, int_lt, if◌then◌else◌, List, [], ◌∷◌, length, take, map, position, Option, Some, None, ℤ}
+use Rattle.std.specs.Prelude.{◌≡◌, ℕ, Bool, true, false, nat_eq, int_lt, if◌then◌else◌, List, [], ◌∷◌, map, position, Option, Some, None, ℤ}
 use Rattle.std.specs.List.{AllByRecursion}
 use Rattle.tp_terms.specs.declared.Limit.TheVariants.{At, Inf}
 use Rattle.tp_terms.specs.declared.ProcStatus.TheVariants.{Scheduled, Running, AwaitsMail, Ended, Parked}
@@ -53,7 +53,3 @@ names_of ps = map (λ (p : Proc). p.name.at) ps
 abbrev pub AreDistinct : List ℕ → Type 0
 AreDistinct [] = Unit {0}
 AreDistinct (n ∷ ns) = AllByRecursion (λ m. nat_eq n m ≡ false) ns × AreDistinct ns
-
--- a list without its last element
-abbrev pub front : {X : Type 0} → List X → List X
-front xs = take (length xs - 1) xs

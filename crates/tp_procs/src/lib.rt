@@ -2,7 +2,8 @@
 #![tactic(auto)]
 
 ghost use Rattle.std.specs.Prelude.{◌≡◌, ℕ, ◌+◌, ◌-◌, ◌<◌, true, false, List, [], ◌∷◌, ◌++◌, length, count_by, position, Some, None, OnOk, OnErr, IfOk, IfSome, slice_get, slice_set};
-ghost use Rattle.tp_procs.specs.Processes.{is_live, is_marked, earliest, named, names_of, AreDistinct, front};
+ghost use Rattle.tp_log.specs.Front.{front};
+ghost use Rattle.tp_procs.specs.Processes.{is_live, is_marked, earliest, named, names_of, AreDistinct};
 
 #[cfg(test)]
 mod tests;

@@ -12,7 +12,7 @@ use Rattle.tp_terms.proofs.BindsLemmas.{acyclic-above}
 use Rattle.tp_meaning.specs.Subst.{apply, value_at}
 use Rattle.tp_meaning.proofs.Unify.{either, or_either}
 use Rattle.tp_store.specs.Contents.{Contents, IsStore, subst_of}
-use Rattle.tp_store.proofs.ChainLemmas.{Tied, named}
+use Rattle.tp_store.proofs.Substitution.Chained.{Tied, named}
 
 -- a variable is no larger than what it occurs in
 mutual

@@ -1,11 +1,6 @@
-pub mod ChainLemmas
-pub mod KeptLemmas
+pub mod Unifier
+pub mod Copies
+pub mod Bodies
+pub mod Substitution
 pub mod FitsLemmas
-pub mod WorkLemmas
-pub mod StepLemmas
-pub mod SolveLemmas
-pub mod UnifierLemmas
-pub mod CopyLemmas
-pub mod TaskLemmas
 pub mod StoreLemmas
-pub mod BodyLemmas

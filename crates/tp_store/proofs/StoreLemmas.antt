@@ -16,7 +16,7 @@ use Rattle.tp_meaning.specs.Valid.{Below, AllBelow}
 use Rattle.tp_meaning.proofs.Unify.{unbound}
 use Rattle.tp_meaning.proofs.Under.{Bound, apply-below, extended-below}
 use Rattle.tp_store.specs.Contents.{Contents, chained, subst_of, seen, AreChained, IsStore, CanGoBack, cut_to_mark}
-use Rattle.tp_store.proofs.ChainLemmas.{IsSubst-chained, unnamed, named, unclaimed}
+use Rattle.tp_store.proofs.Substitution.Chained.{IsSubst-chained, unnamed, named, unclaimed}
 
 pub IsSubst-store : (names : List Name) (c : Contents) → IsStore c → IsSubst (subst_of names c)
 IsSubst-store names c s = IsSubst-chained names c.cells c.vars c.pairs (s.chain names)
@@ -68,9 +68,6 @@ chained-below names c s (p ∷ pairs) h =
     let b = chained-below names c s pairs h.1 in
     extended-below c.vars p.0 (apply (chained names c.cells pairs) (shows names c.cells p.1.at)) (chained names c.cells pairs) (h.0).claimed
     (apply-below c.vars (chained names c.cells pairs) (shows names c.cells p.1.at) b (shows-below names c p.1.at s (h.0).stands)) b
-
-pub subst_of-below : (names : List Name) (c : Contents) → IsStore c → Bound c.vars (subst_of names c)
-subst_of-below names c s = chained-below names c s c.pairs (s.chain names)
 
 -- ---- names
 

@@ -12,7 +12,8 @@ use Rattle.tp_store.specs.Contents.{Contents, IsStore, IsUnbound, IsNumbered, se
 
 -- what the bindings and cells hold; the list in memory has the newest binding last
 abbrev pub contents_of : Chains → Contents
-contents_of s = record { cells = s.cells.items; pairs = reverse s.pairs.items; vars = length s.bound.items }
+contents_of s =
+    record { cells = s.cells.items; pairs = reverse s.pairs.items; vars = length s.bound.items }
 
 -- the table by number has what the list has
 pub record IsTable (bound : List (Option Ref)) (pairs : Bindings) : Type 0 where

@@ -1,5 +1,5 @@
 -- What a store holds, and the substitution that its bindings stand for.
-use Rattle.std.specs.Prelude.{◌≡◌, ℕ, ◌+◌, ◌<◌, ◌≤◌, false, List, [], ◌∷◌, ◌++◌, length, slice_get, take, Some, None}
+use Rattle.std.specs.Prelude.{◌≡◌, ℕ, ◌+◌, ◌<◌, ◌≤◌, Bool, false, is_some, if◌then◌else◌, List, [], ◌∷◌, ◌++◌, length, slice_get, take, Some, None}
 use Rattle.tp_terms.specs.declared.cells.Cell.{Cell}
 use Rattle.tp_terms.specs.declared.cells.Cell.TheVariants as cell
 use Rattle.tp_terms.specs.declared.cells.Ref.{Ref}
@@ -8,7 +8,7 @@ use Rattle.tp_terms.specs.Term.{Name, Term, occurs}
 use Rattle.tp_terms.specs.Shown.{shows, shown_from, AreBuilt, AreNamed}
 use Rattle.tp_terms.specs.Names.{AreDistinct}
 use Rattle.tp_terms.specs.Binds.{Bindings, bound_in}
-use Rattle.tp_meaning.specs.Subst.{Subst, apply, extended}
+use Rattle.tp_meaning.specs.Subst.{Subst, apply, extended, mgu}
 
 -- the cells by their places; the bindings, the newest first; how many variable numbers were claimed
 pub record Contents : Type 0 where
@@ -16,10 +16,13 @@ pub record Contents : Type 0 where
   pub pairs : Bindings
   pub vars : ℕ
 
--- Each binding extends the substitution of those before it, by the term of its place seen under them.
+-- Each binding extends the substitution of those before it, by the term of its place seen under
+-- them.
 unfoldable pub chained : List Name → List Cell → Bindings → Subst
 chained names cells [] = []
-chained names cells (p ∷ pairs) = extended (chained names cells pairs) p.0 (apply (chained names cells pairs) (shows names cells p.1.at))
+chained names cells (p ∷ pairs) =
+    extended (chained names cells pairs) p.0
+    (apply (chained names cells pairs) (shows names cells p.1.at))
 
 -- the substitution that a store stands for
 abbrev pub subst_of : List Name → Contents → Subst
@@ -38,8 +41,10 @@ pub record Names (names : List Name) (cells : List Cell) : Type 0 where
   pub distinct : AreDistinct names
   pub named : AreNamed (length names) cells
 
--- a binding of a variable that was unbound, to a term in which it doesn't occur; of two variables the younger is bound
-pub record Adds (names : List Name) (cells : List Cell) (vars : ℕ) (pairs : Bindings) (v : ℕ) (place : Ref) : Type 0 where
+-- a binding of a variable that was unbound, to a term in which it doesn't occur; of two variables
+-- the younger is bound
+pub record Adds (names : List Name) (cells : List Cell) (vars : ℕ) (pairs : Bindings) (v : ℕ)
+    (place : Ref) : Type 0 where
   pub claimed : v < vars
   pub stands : place.at < length cells
   pub unbound : bound_in pairs v ≡ None
@@ -49,7 +54,8 @@ pub record Adds (names : List Name) (cells : List Cell) (vars : ℕ) (pairs : Bi
 -- each binding was such a one
 abbrev pub AreChained : List Name → List Cell → ℕ → Bindings → Type 0
 AreChained names cells vars [] = Unit {0}
-AreChained names cells vars (p ∷ pairs) = Adds names cells vars pairs p.0 p.1 × AreChained names cells vars pairs
+AreChained names cells vars (p ∷ pairs) =
+    Adds names cells vars pairs p.0 p.1 × AreChained names cells vars pairs
 
 -- each variable's number was claimed
 abbrev pub AreNumbered : ℕ → List Cell → Type 0
@@ -75,13 +81,15 @@ IsUnbound pairs (cell.Int value) = Unit {0}
 IsUnbound pairs (cell.Atom name) = Unit {0}
 IsUnbound pairs (cell.Comp name first count) = Unit {0}
 
--- The mark's numbers are at most the present ones, and nothing that stays speaks of what is cut off.
+-- The mark's numbers are at most the present ones, and nothing that stays speaks of what is cut
+-- off.
 pub record CanGoBack (c : Contents) (mark : StoreMark) : Type 0 where
   pub cells : mark.cells ≤ length c.cells
   pub vars : mark.vars ≤ c.vars
   pub numbers : (v : ℕ) → mark.vars ≤ v → bound_in c.pairs v ≡ None
   pub places : (v : ℕ) (place : Ref) → bound_in c.pairs v ≡ Some place → place.at < mark.cells
-  pub variables : (at v : ℕ) → at < mark.cells → slice_get c.cells at ≡ Some (cell.Var v) → v < mark.vars
+  pub variables : (at v : ℕ) → at < mark.cells → slice_get c.cells at ≡ Some (cell.Var v) →
+      v < mark.vars
 
 -- the contents with cells and variable numbers cut to the mark
 abbrev pub cut_to_mark : Contents → StoreMark → Contents
@@ -111,7 +119,24 @@ pub record AddsPairs (old new : Contents) : Type 0 where
   pub cells : new.cells ≡ old.cells
   pub vars : new.vars ≡ old.vars
 
--- the places of the old store show the same terms in the new one, and the bindings stand for the same
+-- the places of the old store show the same terms in the new one, and the bindings stand for the
+-- same
 pub record Keeps (old new : Contents) : Type 0 where
-  pub terms : (names : List Name) (at : ℕ) → at < length old.cells → shows names new.cells at ≡ shows names old.cells at
+  pub terms : (names : List Name) (at : ℕ) → at < length old.cells →
+      shows names new.cells at ≡ shows names old.cells at
   pub bindings : (names : List Name) → subst_of names new ≡ subst_of names old
+
+-- The terms of two places have the most general unifier that the new bindings are, or none. Names
+-- are compared by their places, so this holds under each table of names that has each name once.
+abbrev pub FindsUnifier : Contents → Contents → Ref → Ref → Bool → Type 0
+FindsUnifier old new left right found =
+    (names : List Name) → Names names old.cells →
+    mgu (subst_of names old) (shows names old.cells left.at) (shows names old.cells right.at)
+    ≡ (if found then Some (subst_of names new) else None)
+
+-- whether the terms of two places have a unifier
+abbrev pub IsUnifiable : Contents → Ref → Ref → Bool → Type 0
+IsUnifiable c left right found =
+    (names : List Name) → Names names c.cells →
+    found ≡ is_some (mgu (subst_of names c) (shows names c.cells left.at)
+    (shows names c.cells right.at))

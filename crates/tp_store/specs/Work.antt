@@ -20,7 +20,8 @@ places_from first (suc n) = record { at = first } ∷ places_from (suc first) n
 
 abbrev pub pairs_from : ℕ → ℕ → ℕ → List (Ref × Ref)
 pairs_from left right zero = []
-pairs_from left right (suc n) = (record { at = left }, record { at = right }) ∷ pairs_from (suc left) (suc right) n
+pairs_from left right (suc n) =
+    (record { at = left }, record { at = right }) ∷ pairs_from (suc left) (suc right) n
 
 -- all these are places
 abbrev pub AreIn : List Cell → List Ref → Type 0
@@ -52,10 +53,13 @@ pub record Extends (s : Subst) (f : ℕ → Term) : Type 0 where
 -- f makes the two sides of each pair equal
 abbrev pub Each : (ℕ → Term) → List Name → List Cell → List (Ref × Ref) → Type 0
 Each f names cells [] = Unit {0}
-Each f names cells (p ∷ ps) = (replaced f (shows names cells p.0.at) ≡ replaced f (shows names cells p.1.at)) × Each f names cells ps
+Each f names cells (p ∷ ps) =
+    (replaced f (shows names cells p.0.at) ≡ replaced f (shows names cells p.1.at)) ×
+    Each f names cells ps
 
 abbrev pub Equal : (ℕ → Term) → List Name → List Cell → Cell → Cell → Type 0
-Equal f names cells x y = replaced f (shown_from names cells x) ≡ replaced f (shown_from names cells y)
+Equal f names cells x y =
+    replaced f (shown_from names cells x) ≡ replaced f (shown_from names cells y)
 
 -- an integer or an atom
 abbrev pub IsConstant : Cell → Type 0
@@ -88,7 +92,8 @@ pub record Becomes (c : Contents) (a b : Cell) (old new : List (Ref × Ref)) : T
   pub added : new ≡ old ++ more
   pub places : ArePairsIn c.cells more
   pub smaller : pairs_size c more < term_size (seen_cell [] c a)
-  pub same : (names : List Name) (f : ℕ → Term) → Equal f names c.cells a b ↔ Each f names c.cells more
+  pub same : (names : List Name) (f : ℕ → Term) →
+      Equal f names c.cells a b ↔ Each f names c.cells more
 
 -- an unbound variable, and the end of another chain, where a variable is older
 pub record MayBind (c : Contents) (v : ℕ) (place : Ref) : Type 0 where
@@ -101,32 +106,38 @@ pub record MayBind (c : Contents) (v : ℕ) (place : Ref) : Type 0 where
 -- the two cells are made equal exactly by what makes this variable and this place equal
 pub record AsksFor (c : Contents) (a b : Cell) (v : ℕ) (place : Ref) : Type 0 where
   pub may : MayBind c v place
-  pub same : (names : List Name) (f : ℕ → Term) → Equal f names c.cells a b ↔ (f v ≡ replaced f (shows names c.cells place.at))
+  pub same : (names : List Name) (f : ℕ → Term) →
+      Equal f names c.cells a b ↔ (f v ≡ replaced f (shows names c.cells place.at))
 
 -- what the comparison of two cells tells
 abbrev pub CellStep : Contents → Cell → Cell → List (Ref × Ref) → List (Ref × Ref) → Pair → Type 0
 CellStep c a b old new Same = Becomes c a b old new
-CellStep c a b old new Clash = (new ≡ old) × ((names : List Name) → Names names c.cells → (f : ℕ → Term) → Equal f names c.cells a b → ⊥)
+CellStep c a b old new Clash = (new ≡ old) ×
+    ((names : List Name) → Names names c.cells → (f : ℕ → Term) → Equal f names c.cells a b → ⊥)
 CellStep c a b old new (Bind v place) = (new ≡ old) × AsksFor c a b v place
 
 -- the pairs come down to this binding and further pairs
 pub record Reduces (c : Contents) (old new : List (Ref × Ref)) (v : ℕ) (place : Ref) : Type 0 where
   pub may : MayBind c v place
   pub places : ArePairsIn c.cells new
-  pub same : (names : List Name) (f : ℕ → Term) → Extends (subst_of names c) f → Each f names c.cells old ↔ ((f v ≡ replaced f (shows names c.cells place.at)) × Each f names c.cells new)
+  pub same : (names : List Name) (f : ℕ → Term) → Extends (subst_of names c) f →
+      Each f names c.cells old ↔
+      ((f v ≡ replaced f (shows names c.cells place.at)) × Each f names c.cells new)
 
 -- what pairs come down to: nothing more, a clash, or a binding
 abbrev pub WorkStep : Contents → List (Ref × Ref) → List (Ref × Ref) → Pair → Type 0
-WorkStep c old new Same = (names : List Name) (f : ℕ → Term) → Extends (subst_of names c) f → Each f names c.cells old
-WorkStep c old new Clash = (names : List Name) → Names names c.cells → (f : ℕ → Term) → Extends (subst_of names c) f → Each f names c.cells old → ⊥
+WorkStep c old new Same =
+    (names : List Name) (f : ℕ → Term) → Extends (subst_of names c) f → Each f names c.cells old
+WorkStep c old new Clash = (names : List Name) → Names names c.cells → (f : ℕ → Term) →
+    Extends (subst_of names c) f → Each f names c.cells old → ⊥
 WorkStep c old new (Bind v place) = Reduces c old new v place
 
 -- no substitution over s makes the two terms equal
 abbrev pub NoneSolves : Subst → Term → Term → Type 0
 NoneSolves s a b = (f : ℕ → Term) → Extends s f → replaced f a ≡ replaced f b → ⊥
 
--- u solves the equation of a and b over s, every other solution is u and then itself, what s binds is bound, and a
--- class of unbound variables goes to its least number
+-- u solves the equation of a and b over s, every other solution is u and then itself, what s binds
+-- is bound, and a class of unbound variables goes to its least number
 pub record IsGeneral (s : Subst) (a b : Term) (u : Subst) : Type 0 where
   pub over : Extends s (value_at u)
   pub same : apply u a ≡ apply u b

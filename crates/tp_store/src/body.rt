@@ -8,7 +8,7 @@ ghost use Rattle.tp_meaning.specs.Body.{body};
 ghost use Rattle.tp_store.specs.Contents.{AddsCells, seen};
 ghost use Rattle.tp_store.specs.Chain.{IsChains, contents_of};
 ghost use Rattle.tp_store.specs.Work.{AreIn};
-ghost use Rattle.tp_store.specs.Bodies.{AreJobs, AsksMemory, Goes, IsPair, KeepsOwn, Looked, compound_form, form_of, joins, pair_of};
+ghost use Rattle.tp_store.specs.Bodies.{AreJobs, AsksMemory, FindsBody, Goes, IsPair, IsWithin, KeepsNames, KeepsOwn, Looked, ShowsCall, ShowsPair, compound_form, form_of, joins, pair_of};
 
 use crate::chains::Chains;
 use std::alloc::Global;
@@ -88,8 +88,10 @@ fn called(chains: &mut Chains, place: Ref) -> Result<Ref, NoMemory>
     ensures chains { IsChains chains.new }
     ensures adds { AddsCells (contents_of chains.old) (contents_of chains.new) }
     ensures place { IfOk result (λ at. at.at < length chains.new.cells.items) }
-    ensures shown { IfOk result (λ at. (names : List Name) → seen names (contents_of chains.new) at.at ≡ Comp (name_at names CALL.at) (More (seen names (contents_of chains.old) place.at) NoMore)) }
-    ensures named { OnOk result ((n : ℕ) → CALL.at < n → AreNamed n chains.old.cells.items → AreNamed n chains.new.cells.items) }
+    ensures shown { IfOk result
+        (ShowsCall (contents_of chains.old) (contents_of chains.new) place) }
+    ensures named { OnOk result
+        (KeepsNames CALL (contents_of chains.old) (contents_of chains.new)) }
 {
     chains.place(Cell::Comp {
         name: CALL,
@@ -106,8 +108,10 @@ fn joined(chains: &mut Chains, name: AtomId, left: Ref, right: Ref) -> Result<Re
     ensures chains { IsChains chains.new }
     ensures adds { AddsCells (contents_of chains.old) (contents_of chains.new) }
     ensures place { IfOk result (λ at. at.at < length chains.new.cells.items) }
-    ensures shown { IfOk result (λ at. (names : List Name) → seen names (contents_of chains.new) at.at ≡ pair_of (name_at names name.at) (seen names (contents_of chains.old) left.at) (seen names (contents_of chains.old) right.at)) }
-    ensures named { OnOk result ((n : ℕ) → name.at < n → AreNamed n chains.old.cells.items → AreNamed n chains.new.cells.items) }
+    ensures shown { IfOk result
+        (ShowsPair (contents_of chains.old) (contents_of chains.new) name left right) }
+    ensures named { OnOk result
+        (KeepsNames name (contents_of chains.old) (contents_of chains.new)) }
 {
     let (left, right) = (chains.cells.get(left), chains.cells.get(right));
     let first = chains.place(left)?;
@@ -119,8 +123,8 @@ fn joined(chains: &mut Chains, name: AtomId, left: Ref, right: Ref) -> Result<Re
     })
 }
 
-/// A place for two bodies, joined as the goals of a place are: that place, where each goal is its own
-/// body.
+/// A place for two bodies, joined as the goals of a place are: that place, where each goal is its
+/// own body.
 fn rejoined(
     chains: &mut Chains,
     at: Ref,
@@ -135,9 +139,12 @@ fn rejoined(
     ensures chains { IsChains chains.new }
     ensures adds { AddsCells (contents_of chains.old) (contents_of chains.new) }
     ensures place { IfOk result (λ at. at.at < length chains.new.cells.items) }
-    ensures shown { IfOk result (λ at. (names : List Name) → seen names (contents_of chains.new) at.at ≡ pair_of (name_at names name.at) (seen names (contents_of chains.old) bodies.0.at) (seen names (contents_of chains.old) bodies.1.at)) }
-    ensures own { bodies ≡ goals → (contents_of chains.new ≡ contents_of chains.old) × (result ≡ Ok at) }
-    ensures named { OnOk result ((n : ℕ) → name.at < n → AreNamed n chains.old.cells.items → AreNamed n chains.new.cells.items) }
+    ensures shown { IfOk result
+        (ShowsPair (contents_of chains.old) (contents_of chains.new) name bodies.0 bodies.1) }
+    ensures own { bodies ≡ goals →
+        (contents_of chains.new ≡ contents_of chains.old) × (result ≡ Ok at) }
+    ensures named { OnOk result
+        (KeepsNames name (contents_of chains.old) (contents_of chains.new)) }
 {
     if bodies.0.at == goals.0.at && bodies.1.at == goals.1.at {
         return Ok(at);
@@ -171,8 +178,10 @@ fn join(
     ensures chains { IsChains chains.new }
     ensures adds { AddsCells (contents_of chains.old) (contents_of chains.new) }
     ensures step { OnOk result ((jobs : List Job) →
-        AreJobs (contents_of chains.old) (Job.Join at name goals.0 goals.1 ∷ jobs) (length (reverse made.old.items)) →
-        Goes (contents_of chains.old) (Job.Join at name goals.0 goals.1 ∷ jobs) (reverse made.old.items) (contents_of chains.new) jobs (reverse made.new.items)) }
+        AreJobs (contents_of chains.old) (Job.Join at name goals.0 goals.1 ∷ jobs)
+        (length (reverse made.old.items)) →
+        Goes (contents_of chains.old) (Job.Join at name goals.0 goals.1 ∷ jobs)
+        (reverse made.old.items) (contents_of chains.new) jobs (reverse made.new.items)) }
 {
     let bodies = two_newest(made);
     let place = rejoined(chains, at, name, goals, bodies)?;
@@ -188,7 +197,9 @@ fn push_goals(
     left: Ref,
     right: Ref,
 ) -> Result<(), NoMemory>
-    ensures { OnOk result (reverse jobs.new.items ≡ Job.Convert left ∷ Job.Convert right ∷ Job.Join at name left right ∷ reverse jobs.old.items) }
+    ensures { OnOk result
+        (reverse jobs.new.items ≡ Job.Convert left ∷ Job.Convert right ∷ Job.Join at name left right
+        ∷ reverse jobs.old.items) }
 {
     jobs.push(Job::Join {
         at,
@@ -210,12 +221,14 @@ fn look_at(
     made: &mut Vec<Ref>,
 ) -> Result<bool, NoMemory>
     requires chains { IsChains chains.old }
-    requires can { AreJobs (contents_of chains.old) (Job.Convert at ∷ reverse jobs.old.items) (length (reverse made.old.items)) }
+    requires can { AreJobs (contents_of chains.old) (Job.Convert at ∷ reverse jobs.old.items)
+        (length (reverse made.old.items)) }
     requires within { AreIn chains.old.cells.items (reverse made.old.items) }
     ensures chains { IsChains chains.new }
     ensures adds { AddsCells (contents_of chains.old) (contents_of chains.new) }
     ensures step { IfOk result (λ has.
-        Looked has (contents_of chains.old) at (reverse jobs.old.items) (reverse made.old.items) (contents_of chains.new) (reverse jobs.new.items) (reverse made.new.items)) }
+        Looked has (contents_of chains.old) at (reverse jobs.old.items) (reverse made.old.items)
+        (contents_of chains.new) (reverse jobs.new.items) (reverse made.new.items)) }
 {
     let end = chains.end(at);
     match as_goal(end.cell) {
@@ -236,11 +249,12 @@ fn convert(chains: &mut Chains, alloc: Global, goal: Ref) -> Result<Option<Ref>,
     requires goal { goal.at < length chains.old.cells.items }
     ensures chains { IsChains chains.new }
     ensures adds { AddsCells (contents_of chains.old) (contents_of chains.new) }
-    ensures body { IfOk result (λ found. (names : List Name) → IsTable names → AreNamed (length names) chains.old.cells.items →
-        option_map (λ at. seen names (contents_of chains.new) at.at) found ≡ body (seen names (contents_of chains.old) goal.at)) }
+    ensures body { IfOk result (FindsBody (contents_of chains.old) (contents_of chains.new) goal) }
     ensures own { IfOk result (KeepsOwn (contents_of chains.old) (contents_of chains.new) goal) }
-    ensures place { IfOk result (λ found. IfSome found (λ at. at.at < length chains.new.cells.items)) }
-    ensures named { IfOk result (λ found. IfSome found (λ at. (n : ℕ) → CALL.at < n → AreNamed n chains.old.cells.items → AreNamed n chains.new.cells.items)) }
+    ensures place { IfOk result (IsWithin (contents_of chains.new)) }
+    ensures named { IfOk result
+        (λ found. IfSome found
+        (λ at. KeepsNames CALL (contents_of chains.old) (contents_of chains.new))) }
 {
     let mut jobs = Vec::new(alloc);
     let mut made = Vec::new(alloc);
@@ -263,19 +277,20 @@ fn convert(chains: &mut Chains, alloc: Global, goal: Ref) -> Result<Option<Ref>,
     Ok(Some(made[0]))
 }
 
-/// A place for the body of a goal, where it has one. Where there is none, and where memory is refused,
-/// no cell was added.
+/// A place for the body of a goal, where it has one. Where there is none, and where memory is
+/// refused, no cell was added.
 fn converted(chains: &mut Chains, alloc: Global, goal: Ref) -> Result<Option<Ref>, NoMemory>
     requires chains { IsChains chains.old }
     requires goal { goal.at < length chains.old.cells.items }
     ensures chains { IsChains chains.new }
     ensures adds { AddsCells (contents_of chains.old) (contents_of chains.new) }
-    ensures body { IfOk result (λ found. (names : List Name) → IsTable names → AreNamed (length names) chains.old.cells.items →
-        option_map (λ at. seen names (contents_of chains.new) at.at) found ≡ body (seen names (contents_of chains.old) goal.at)) }
+    ensures body { IfOk result (FindsBody (contents_of chains.old) (contents_of chains.new) goal) }
     ensures own { IfOk result (KeepsOwn (contents_of chains.old) (contents_of chains.new) goal) }
-    ensures place { IfOk result (λ found. IfSome found (λ at. at.at < length chains.new.cells.items)) }
-    ensures named { OnOk result ((n : ℕ) → CALL.at < n → AreNamed n chains.old.cells.items → AreNamed n chains.new.cells.items) }
-    ensures none { IfOk result (λ found. IfNone found (contents_of chains.new ≡ contents_of chains.old)) }
+    ensures place { IfOk result (IsWithin (contents_of chains.new)) }
+    ensures named { OnOk result
+        (KeepsNames CALL (contents_of chains.old) (contents_of chains.new)) }
+    ensures none { IfOk result
+        (λ found. IfNone found (contents_of chains.new ≡ contents_of chains.old)) }
     ensures err { OnErr result (contents_of chains.new ≡ contents_of chains.old) }
 {
     let kept = chains.cells.len();
@@ -292,19 +307,20 @@ fn converted(chains: &mut Chains, alloc: Global, goal: Ref) -> Result<Option<Ref
     }
 }
 
-/// A place for the body of a goal, where it has one. Where there is none, and where memory is refused,
-/// no cell was added. A goal that is its own body stays where it is.
+/// A place for the body of a goal, where it has one. Where there is none, and where memory is
+/// refused, no cell was added. A goal that is its own body stays where it is.
 pub fn body_of(chains: &mut Chains, alloc: Global, goal: Ref) -> Result<Option<Ref>, NoMemory>
     requires chains { IsChains chains.old }
     requires goal { goal.at < length chains.old.cells.items }
     ensures chains { IsChains chains.new }
     ensures adds { AddsCells (contents_of chains.old) (contents_of chains.new) }
-    ensures body { IfOk result (λ found. (names : List Name) → IsTable names → AreNamed (length names) chains.old.cells.items →
-        option_map (λ at. seen names (contents_of chains.new) at.at) found ≡ body (seen names (contents_of chains.old) goal.at)) }
+    ensures body { IfOk result (FindsBody (contents_of chains.old) (contents_of chains.new) goal) }
     ensures own { IfOk result (KeepsOwn (contents_of chains.old) (contents_of chains.new) goal) }
-    ensures place { IfOk result (λ found. IfSome found (λ at. at.at < length chains.new.cells.items)) }
-    ensures named { OnOk result ((n : ℕ) → CALL.at < n → AreNamed n chains.old.cells.items → AreNamed n chains.new.cells.items) }
-    ensures none { IfOk result (λ found. IfNone found (contents_of chains.new ≡ contents_of chains.old)) }
+    ensures place { IfOk result (IsWithin (contents_of chains.new)) }
+    ensures named { OnOk result
+        (KeepsNames CALL (contents_of chains.old) (contents_of chains.new)) }
+    ensures none { IfOk result
+        (λ found. IfNone found (contents_of chains.new ≡ contents_of chains.old)) }
     ensures err { OnErr result (contents_of chains.new ≡ contents_of chains.old) }
     ensures memory { OnErr result (AsksMemory (contents_of chains.old) goal) }
 {

@@ -71,7 +71,9 @@ impl Chains {
         requires chains { IsChains self.now }
         requires place { at.at < length self.now.cells.items }
         ensures end { IsEnd (contents_of self.now) result }
-        ensures same { (names : List Name) → seen_cell names (contents_of self.now) result.cell ≡ seen names (contents_of self.now) at.at }
+        ensures same { (names : List Name) →
+            seen_cell names (contents_of self.now) result.cell ≡ seen names
+            (contents_of self.now) at.at }
     {
         let mut place = at;
         let mut cell = self.cells.get(place);
@@ -119,7 +121,9 @@ impl Chains {
         requires chains { IsChains self.old }
         ensures chains { IsChains self.new }
         ensures place { IfOk result (λ at. at.at ≡ length self.old.cells.items) }
-        ensures value { OnOk result (contents_of self.new ≡ with_cell (with_vars (contents_of self.old) 1) (Cell.Var (length self.old.bound.items))) }
+        ensures value { OnOk result
+            (contents_of self.new ≡ with_cell (with_vars (contents_of self.old) 1)
+            (Cell.Var (length self.old.bound.items))) }
         ensures err { OnErr result (contents_of self.new ≡ contents_of self.old) }
     {
         self.cells.reserve(1)?;
@@ -130,11 +134,15 @@ impl Chains {
     /// Binds an unbound variable to a place whose term doesn't have it.
     pub fn bind(&mut self, number: u64, place: Ref) -> Result<(), NoMemory>
         requires chains { IsChains self.old }
-        requires adds { (names : List Name) → Adds names self.old.cells.items (length self.old.bound.items) (contents_of self.old).pairs number place }
+        requires adds { (names : List Name) →
+            Adds names self.old.cells.items (length self.old.bound.items)
+            (contents_of self.old).pairs number place }
         ensures chains { IsChains self.new }
-        ensures value { OnOk result (contents_of self.new ≡ with_pair (contents_of self.old) number place) }
+        ensures value { OnOk result
+            (contents_of self.new ≡ with_pair (contents_of self.old) number place) }
         ensures err { OnErr result (contents_of self.new ≡ contents_of self.old) }
-        ensures table { OnOk result (self.new.bound.items ≡ slice_set self.old.bound.items number (Some place)) }
+        ensures table { OnOk result
+            (self.new.bound.items ≡ slice_set self.old.bound.items number (Some place)) }
     {
         self.pairs.push((number, place))?;
         self.bound[number as usize] = Some(place);
@@ -146,7 +154,13 @@ impl Chains {
         requires chains { IsChains self.old }
         requires kept { kept ≤ length self.old.pairs.items }
         ensures chains { IsChains self.new }
-        ensures value { contents_of self.new ≡ record { cells = self.old.cells.items; pairs = reverse (take kept self.old.pairs.items); vars = length self.old.bound.items } }
+        ensures value { contents_of self.new
+            ≡ record {
+              cells = self.old.cells.items;
+              pairs = reverse
+                  (take kept self.old.pairs.items);
+              vars = length self.old.bound.items;
+            } }
     {
         'undo: while self.pairs.len() > kept {
             if let Some(newest) = self.pairs.pop() {

@@ -6,7 +6,7 @@ ghost use Rattle.tp_terms.specs.Shown.{AreNamed, shows};
 ghost use Rattle.tp_meaning.specs.Clauses.{renamed};
 ghost use Rattle.tp_store.specs.Contents.{AddsCells};
 ghost use Rattle.tp_store.specs.Chain.{IsChains, contents_of};
-ghost use Rattle.tp_store.specs.Copy.{AreReady, IsClaimed, IsLast, copies, looked_at};
+ghost use Rattle.tp_store.specs.Copy.{AreReady, IsClaimed, IsLast, NamesBoth, ShowsCopy, copies, looked_at};
 
 use crate::chains::Chains;
 use std::alloc::Global;
@@ -29,7 +29,8 @@ pub enum Task {
 /// Adds the copies of adjacent places to the tasks.
 fn push_copies(tasks: &mut Vec<Task>, first: Ref, count: u8) -> Result<(), NoMemory>
     requires { first.at + count < 2 ^ 64 }
-    ensures { OnOk result (reverse tasks.new.items ≡ copies first.at count ++ reverse tasks.old.items) }
+    ensures { OnOk result
+        (reverse tasks.new.items ≡ copies first.at count ++ reverse tasks.old.items) }
 {
     for k in 0..count {
         tasks.push(Task::Copy(Ref {
@@ -39,8 +40,8 @@ fn push_copies(tasks: &mut Vec<Task>, first: Ref, count: u8) -> Result<(), NoMem
     Ok(())
 }
 
-/// Looks at a cell that is to be copied, its variable numbered on from the base: it is made at once, or
-/// its arguments are to be made first.
+/// Looks at a cell that is to be copied, its variable numbered on from the base: it is made at
+/// once, or its arguments are to be made first.
 fn look_at(
     cell: Cell,
     base: u64,
@@ -48,8 +49,11 @@ fn look_at(
     made: &mut Vec<Cell>,
 ) -> Result<(), NoMemory>
     requires variable { (v : ℕ) → cell ≡ Cell.Var v → v + base < 2 ^ 64 }
-    requires args { (name : AtomId) (first : Ref) (count : ℕ) → cell ≡ Cell.Comp name first count → first.at + count < 2 ^ 64 }
-    ensures { OnOk result ((reverse tasks.new.items, reverse made.new.items) ≡ looked_at cell base (reverse tasks.old.items) (reverse made.old.items)) }
+    requires args { (name : AtomId) (first : Ref) (count : ℕ) → cell ≡ Cell.Comp name first count →
+        first.at + count < 2 ^ 64 }
+    ensures { OnOk result
+        ((reverse tasks.new.items, reverse made.new.items) ≡ looked_at cell base
+        (reverse tasks.old.items) (reverse made.old.items)) }
 {
     match cell {
         Cell::Var(number) => made.push(Cell::Var(number + base))?,
@@ -66,11 +70,16 @@ fn look_at(
 fn build(chains: &mut Chains, name: AtomId, count: u8, made: &mut Vec<Cell>) -> Result<(), NoMemory>
     requires chains { IsChains chains.old }
     requires enough { count ≤ length made.old.items }
-    requires ready { AreReady (length chains.old.cells.items) (length chains.old.bound.items) (reverse made.old.items) }
+    requires ready { AreReady (length chains.old.cells.items) (length chains.old.bound.items)
+        (reverse made.old.items) }
     ensures chains { IsChains chains.new }
     ensures adds { AddsCells (contents_of chains.old) (contents_of chains.new) }
-    ensures cells { OnOk result (chains.new.cells.items ≡ chains.old.cells.items ++ take count (reverse made.old.items)) }
-    ensures made { OnOk result (reverse made.new.items ≡ Cell.Comp name (record { at = length chains.old.cells.items }) count ∷ drop count (reverse made.old.items)) }
+    ensures cells { OnOk result
+        (chains.new.cells.items ≡ chains.old.cells.items ++ take count (reverse made.old.items)) }
+    ensures made { OnOk result
+        (reverse made.new.items ≡ Cell.Comp name
+        (record { at = length chains.old.cells.items }) count ∷ drop count
+        (reverse made.old.items)) }
 {
     let first = Ref {
         at: chains.cells.len(),
@@ -84,7 +93,8 @@ fn build(chains: &mut Chains, name: AtomId, count: u8, made: &mut Vec<Cell>) -> 
     Ok(())
 }
 
-/// Copies the term of a place, each variable numbered on from the base. Want of memory leaves cells.
+/// Copies the term of a place, each variable numbered on from the base. Want of memory leaves
+/// cells.
 fn copy(
     chains: &mut Chains,
     alloc: Global,
@@ -98,9 +108,12 @@ fn copy(
     ensures chains { IsChains chains.new }
     ensures adds { AddsCells (contents_of chains.old) (contents_of chains.new) }
     ensures place { IfOk result (λ at. at.at < length chains.new.cells.items) }
-    ensures shown { IfOk result (λ at. (names : List Name) → shows names chains.new.cells.items at.at ≡ renamed base (shows names from.now.items root.at)) }
-    ensures last { IfOk result (λ at. IsLast chains.old.cells.items chains.new.cells.items (shows [] from.now.items root.at) at.at) }
-    ensures named { OnOk result ((n : ℕ) → AreNamed n from.now.items → AreNamed n chains.old.cells.items → AreNamed n chains.new.cells.items) }
+    ensures shown { IfOk result (ShowsCopy from.now.items root base chains.new.cells.items) }
+    ensures last { IfOk result
+        (λ at. IsLast chains.old.cells.items chains.new.cells.items
+        (shows [] from.now.items root.at) at.at) }
+    ensures named { OnOk result
+        (NamesBoth from.now.items chains.old.cells.items chains.new.cells.items) }
 {
     let mut tasks = Vec::new(alloc);
     let mut made = Vec::new(alloc);
@@ -130,9 +143,12 @@ pub fn instance(
     ensures chains { IsChains chains.new }
     ensures adds { AddsCells (contents_of chains.old) (contents_of chains.new) }
     ensures place { IfOk result (λ at. at.at < length chains.new.cells.items) }
-    ensures shown { IfOk result (λ at. (names : List Name) → shows names chains.new.cells.items at.at ≡ renamed base (shows names from.now.items root.at)) }
-    ensures last { IfOk result (λ at. IsLast chains.old.cells.items chains.new.cells.items (shows [] from.now.items root.at) at.at) }
-    ensures named { OnOk result ((n : ℕ) → AreNamed n from.now.items → AreNamed n chains.old.cells.items → AreNamed n chains.new.cells.items) }
+    ensures shown { IfOk result (ShowsCopy from.now.items root base chains.new.cells.items) }
+    ensures last { IfOk result
+        (λ at. IsLast chains.old.cells.items chains.new.cells.items
+        (shows [] from.now.items root.at) at.at) }
+    ensures named { OnOk result
+        (NamesBoth from.now.items chains.old.cells.items chains.new.cells.items) }
     ensures err { OnErr result (contents_of chains.new ≡ contents_of chains.old) }
 {
     let kept = chains.cells.len();

@@ -53,10 +53,13 @@ fn push_pairs(work: &mut Vec<(Ref, Ref)>, left: Ref, right: Ref, count: u8) -> R
     Ok(())
 }
 
-/// Looks for a variable in the cell at the end of a chain. The places of further terms go to the list.
+/// Looks for a variable in the cell at the end of a chain. The places of further terms go to the
+/// list.
 fn visit(number: u64, end: End, work: &mut Vec<Ref>) -> Result<bool, NoMemory>
     requires { StandsBefore end.place.at end.cell }
-    ensures { IfOk result (λ found. (c : Contents) → IsStore c → IsEnd c end → VisitStep c number end.cell work.old.items work.new.items found) }
+    ensures { IfOk result
+        (λ found. (c : Contents) → IsStore c → IsEnd c end →
+        VisitStep c number end.cell work.old.items work.new.items found) }
 {
     match end.cell {
         Cell::Var(other) => Ok(other == number),
@@ -72,7 +75,9 @@ fn visit(number: u64, end: End, work: &mut Vec<Ref>) -> Result<bool, NoMemory>
 pub fn occurs_at(chains: &Chains, alloc: Global, number: u64, place: Ref) -> Result<bool, NoMemory>
     requires chains { IsChains chains.now }
     requires place { place.at < length chains.now.cells.items }
-    ensures { IfOk result (λ found. (names : List Name) → found ≡ occurs number (seen names (contents_of chains.now) place.at)) }
+    ensures { IfOk result
+        (λ found. (names : List Name) →
+        found ≡ occurs number (seen names (contents_of chains.now) place.at)) }
 {
     let mut work = Vec::new(alloc);
     work.push(place)?;
@@ -84,10 +89,12 @@ pub fn occurs_at(chains: &Chains, alloc: Global, number: u64, place: Ref) -> Res
     Ok(false)
 }
 
-/// Compares an unbound variable with the end of another chain. The younger of two variables takes the
-/// older's name.
+/// Compares an unbound variable with the end of another chain. The younger of two variables takes
+/// the older's name.
 fn compare_variable(number: u64, place: Ref, other: End) -> Pair
-    ensures { (c : Contents) (work : List (Ref × Ref)) → IsEnd c (record { place = place; cell = Cell.Var number }) → IsEnd c other → CellStep c (Cell.Var number) other.cell work work result }
+    ensures { (c : Contents) (work : List (Ref × Ref)) →
+        IsEnd c (record { place = place; cell = Cell.Var number }) → IsEnd c other →
+        CellStep c (Cell.Var number) other.cell work work result }
 {
     match other.cell {
         Cell::Var(second) => {
@@ -117,7 +124,8 @@ fn same_constant(left: Cell, right: Cell) -> bool
 /// Compares an integer or an atom with the end of another chain.
 fn compare_constant(constant: End, other: End) -> Pair
     requires { IsConstant constant.cell }
-    ensures { (c : Contents) (work : List (Ref × Ref)) → IsEnd c constant → IsEnd c other → CellStep c constant.cell other.cell work work result }
+    ensures { (c : Contents) (work : List (Ref × Ref)) → IsEnd c constant → IsEnd c other →
+        CellStep c constant.cell other.cell work work result }
 {
     if let Cell::Var(number) = other.cell {
         return Pair::Bind(number, constant.place);
@@ -129,8 +137,8 @@ fn compare_constant(constant: End, other: End) -> Pair
     }
 }
 
-/// Compares a compound, given by its name, its arguments and its place, with the end of another chain.
-/// The pairs of arguments go to the list.
+/// Compares a compound, given by its name, its arguments and its place, with the end of another
+/// chain. The pairs of arguments go to the list.
 fn compare_compound(
     name: AtomId,
     args: (Ref, u8),
@@ -140,7 +148,11 @@ fn compare_compound(
 ) -> Result<Pair, NoMemory>
     requires before { StandsBefore place.at (Cell.Comp name args.0 args.1) }
     requires other { StandsBefore other.place.at other.cell }
-    ensures { IfOk result (λ pair. (c : Contents) → IsEnd c (record { place = place; cell = Cell.Comp name args.0 args.1 }) → IsEnd c other → CellStep c (Cell.Comp name args.0 args.1) other.cell work.old.items work.new.items pair) }
+    ensures { IfOk result
+        (λ pair. (c : Contents) →
+        IsEnd c (record { place = place; cell = Cell.Comp name args.0 args.1 }) →
+        IsEnd c other →
+        CellStep c (Cell.Comp name args.0 args.1) other.cell work.old.items work.new.items pair) }
 {
     match other.cell {
         Cell::Var(number) => Ok(Pair::Bind(number, place)),
@@ -163,7 +175,9 @@ fn compare_compound(
 fn compare(left: End, right: End, work: &mut Vec<(Ref, Ref)>) -> Result<Pair, NoMemory>
     requires left { StandsBefore left.place.at left.cell }
     requires right { StandsBefore right.place.at right.cell }
-    ensures { IfOk result (λ pair. (c : Contents) → IsEnd c left → IsEnd c right → CellStep c left.cell right.cell work.old.items work.new.items pair) }
+    ensures { IfOk result
+        (λ pair. (c : Contents) → IsEnd c left → IsEnd c right →
+        CellStep c left.cell right.cell work.old.items work.new.items pair) }
 {
     match left.cell {
         Cell::Var(number) => Ok(compare_variable(number, left.place, right)),
@@ -178,7 +192,8 @@ fn compare(left: End, right: End, work: &mut Vec<(Ref, Ref)>) -> Result<Pair, No
 pub fn next_binding(chains: &Chains, work: &mut Vec<(Ref, Ref)>) -> Result<Pair, NoMemory>
     requires chains { IsChains chains.now }
     requires places { ArePairsIn chains.now.cells.items work.old.items }
-    ensures { IfOk result (λ pair. WorkStep (contents_of chains.now) work.old.items work.new.items pair) }
+    ensures { IfOk result
+        (λ pair. WorkStep (contents_of chains.now) work.old.items work.new.items pair) }
 {
     'pairs: while let Some((left, right)) = work.pop() {
         match compare(chains.end(left), chains.end(right), work)? {

@@ -4,7 +4,7 @@ ghost use Rattle.std.specs.Prelude.{◌≡◌, ◌≢◌, ◌<◌, List, length,
 ghost use Rattle.tp_terms.specs.Term.{Name};
 ghost use Rattle.tp_terms.specs.Shown.{shows};
 ghost use Rattle.tp_meaning.specs.Subst.{mgu};
-ghost use Rattle.tp_store.specs.Contents.{AddsPairs, Names, subst_of};
+ghost use Rattle.tp_store.specs.Contents.{AddsPairs, FindsUnifier, IsUnifiable, Names, subst_of};
 ghost use Rattle.tp_store.specs.Chain.{IsChains, contents_of};
 ghost use Rattle.tp_store.specs.Work.{IsGeneral, NoneSolves};
 
@@ -20,8 +20,15 @@ fn solve(chains: &mut Chains, alloc: Global, left: Ref, right: Ref) -> Result<bo
     requires right { right.at < length chains.old.cells.items }
     ensures chains { IsChains chains.new }
     ensures adds { AddsPairs (contents_of chains.old) (contents_of chains.new) }
-    ensures yes { result ≡ Ok true → (names : List Name) → IsGeneral (subst_of names (contents_of chains.old)) (shows names chains.old.cells.items left.at) (shows names chains.old.cells.items right.at) (subst_of names (contents_of chains.new)) }
-    ensures no { result ≡ Ok false → (names : List Name) → Names names chains.old.cells.items → NoneSolves (subst_of names (contents_of chains.old)) (shows names chains.old.cells.items left.at) (shows names chains.old.cells.items right.at) }
+    ensures yes { result ≡ Ok true → (names : List Name) →
+        IsGeneral (subst_of names (contents_of chains.old))
+        (shows names chains.old.cells.items left.at)
+        (shows names chains.old.cells.items right.at)
+        (subst_of names (contents_of chains.new)) }
+    ensures no { result ≡ Ok false → (names : List Name) → Names names chains.old.cells.items →
+        NoneSolves (subst_of names (contents_of chains.old))
+        (shows names chains.old.cells.items left.at)
+        (shows names chains.old.cells.items right.at) }
 {
     let mut work = Vec::new(alloc);
     work.push((left, right))?;
@@ -47,9 +54,8 @@ pub fn unify(chains: &mut Chains, alloc: Global, left: Ref, right: Ref) -> Resul
     requires right { right.at < length chains.old.cells.items }
     ensures chains { IsChains chains.new }
     ensures adds { AddsPairs (contents_of chains.old) (contents_of chains.new) }
-    ensures found { IfOk result (λ found. (names : List Name) → Names names chains.old.cells.items →
-        mgu (subst_of names (contents_of chains.old)) (shows names chains.old.cells.items left.at) (shows names chains.old.cells.items right.at)
-        ≡ (if found then Some (subst_of names (contents_of chains.new)) else None)) }
+    ensures found { IfOk result
+        (FindsUnifier (contents_of chains.old) (contents_of chains.new) left right) }
     ensures undone { result ≢ Ok true → contents_of chains.new ≡ contents_of chains.old }
 {
     let kept = chains.pairs.len();
@@ -77,8 +83,7 @@ pub fn unifiable(
     requires left { left.at < length chains.old.cells.items }
     requires right { right.at < length chains.old.cells.items }
     ensures chains { IsChains chains.new }
-    ensures found { IfOk result (λ found. (names : List Name) → Names names chains.old.cells.items →
-        found ≡ is_some (mgu (subst_of names (contents_of chains.old)) (shows names chains.old.cells.items left.at) (shows names chains.old.cells.items right.at))) }
+    ensures found { IfOk result (IsUnifiable (contents_of chains.old) left right) }
     ensures value { contents_of chains.new ≡ contents_of chains.old }
 {
     let kept = chains.pairs.len();

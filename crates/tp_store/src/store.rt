@@ -8,9 +8,9 @@ ghost use Rattle.tp_terms.specs.Binds.{Fits};
 ghost use Rattle.tp_meaning.specs.Body.{body};
 ghost use Rattle.tp_meaning.specs.Clauses.{renamed};
 ghost use Rattle.tp_meaning.specs.Subst.{mgu};
-ghost use Rattle.tp_store.specs.Contents.{AddsCells, AddsPairs, IsStore, Names, IsNumbered, IsUnbound, CanGoBack, Keeps, cut_to_mark, with_cell, with_vars, seen, seen_cell, subst_of};
-ghost use Rattle.tp_store.specs.Copy.{IsClaimed, IsLast};
-ghost use Rattle.tp_store.specs.Bodies.{AsksMemory, KeepsOwn};
+ghost use Rattle.tp_store.specs.Contents.{AddsCells, AddsPairs, IsStore, Names, IsNumbered, IsUnbound, CanGoBack, FindsUnifier, IsUnifiable, Keeps, cut_to_mark, with_cell, with_vars, seen, seen_cell, subst_of};
+ghost use Rattle.tp_store.specs.Copy.{IsClaimed, IsLast, NamesBoth, ShowsCopy};
+ghost use Rattle.tp_store.specs.Bodies.{AsksMemory, FindsBody, IsWithin, KeepsNames, KeepsOwn};
 
 use crate::body::body_of;
 use crate::chains::Chains;
@@ -22,8 +22,8 @@ use tp_terms::symbols::CALL;
 use tp_terms::{Binds, Cell, Cells, NoMemory, Ref, StoreMark};
 
 /// Terms in cells, and what their variables are bound to. Contracts see its cells, its bindings and
-/// how many variable numbers were claimed; `subst_of` of specs/Contents.antt is the substitution that
-/// the bindings stand for, and `IsStore` tells the facts that hold of every store.
+/// how many variable numbers were claimed; `subst_of` of specs/Contents.antt is the substitution
+/// that the bindings stand for, and `IsStore` tells the facts that hold of every store.
 #[derive(Drop)]
 pub struct Store {
     chains: Chains,
@@ -67,7 +67,8 @@ impl Store {
     /// Answers `NoMemory` where the memory for it isn't had, and then the store is as before.
     pub fn fresh(&mut self) -> Result<Ref, NoMemory>
         ensures place { IfOk result (λ at. at.at ≡ length self.old.cells) }
-        ensures value { OnOk result (self.new ≡ with_cell (with_vars self.old 1) (Cell.Var self.old.vars)) }
+        ensures value { OnOk result
+            (self.new ≡ with_cell (with_vars self.old 1) (Cell.Var self.old.vars)) }
         ensures keeps { OnOk result (Keeps self.old self.new) }
         ensures err { OnErr result (self.new ≡ self.old) }
         ensures store { IsStore self.new }
@@ -91,8 +92,9 @@ impl Store {
         self.chains.place(cell)
     }
 
-    /// A place for the term of `root` in `from`, its variable `k` as number `base + k`. No place that
-    /// stood shows another term afterwards. The condition `claimed` is that these numbers were claimed.
+    /// A place for the term of `root` in `from`, its variable `k` as number `base + k`. No place
+    /// that stood shows another term afterwards. The condition `claimed` is that these numbers were
+    /// claimed.
     ///
     /// Answers `NoMemory` where the memory for it isn't had, and then the store is as before.
     pub fn instance(&mut self, from: &Cells, root: Ref, base: u64) -> Result<Ref, NoMemory>
@@ -101,13 +103,12 @@ impl Store {
         ensures adds { AddsCells self.old self.new }
         ensures keeps { Keeps self.old self.new }
         ensures place { IfOk result (λ at. at.at < length self.new.cells) }
-        ensures shown { IfOk result (λ at. (names : List Name) → shows names self.new.cells at.at ≡ renamed base (shows names from.now.items root.at)) }
-        ensures last { IfOk result (λ at. IsLast self.old.cells self.new.cells (shows [] from.now.items root.at) at.at) }
+        ensures shown { IfOk result (ShowsCopy from.now.items root base self.new.cells) }
+        ensures last { IfOk result
+            (λ at. IsLast self.old.cells self.new.cells (shows [] from.now.items root.at) at.at) }
         ensures err { OnErr result (self.new ≡ self.old) }
         ensures store { IsStore self.new }
-
-        // A table of names for both has every atom of the new cells.
-        ensures named { OnOk result ((n : ℕ) → AreNamed n from.now.items → AreNamed n self.old.cells → AreNamed n self.new.cells) }
+        ensures named { OnOk result (NamesBoth from.now.items self.old.cells self.new.cells) }
     {
         let alloc = *self.chains.pairs.allocator();
         instance(&mut self.chains, alloc, from, root, base)
@@ -125,7 +126,8 @@ impl Store {
     /// The cell that a place shows once bindings are followed: no bound variable.
     pub fn top(&self, at: Ref) -> Cell
         requires { at.at < length self.now.cells }
-        ensures seen { (names : List Name) → seen_cell names self.now result ≡ seen names self.now at.at }
+        ensures seen { (names : List Name) →
+            seen_cell names self.now result ≡ seen names self.now at.at }
         ensures unbound { IsUnbound self.now.pairs result }
         ensures before { StandsBefore (length self.now.cells) result }
         ensures numbered { IsNumbered self.now.vars result }
@@ -134,21 +136,16 @@ impl Store {
         self.chains.end(at).cell
     }
 
-    /// Makes the terms of two places equal, by the fewest bindings that do: the most general unifier
-    /// over the substitution so far, with occurs check (ISO/IEC 13211-1, clause 7.3). Of two unbound
-    /// variables the younger takes the older's name. False exactly where there is no unifier, and then
-    /// nothing is bound.
+    /// Makes the terms of two places equal, by the fewest bindings that do: the most general
+    /// unifier over the substitution so far, with occurs check (ISO/IEC 13211-1, clause 7.3). Of
+    /// two unbound variables the younger takes the older's name. False exactly where there is no
+    /// unifier, and then nothing is bound.
     ///
     /// Answers `NoMemory` where the memory for it isn't had, and then nothing is bound.
     pub fn unify(&mut self, left: Ref, right: Ref) -> Result<bool, NoMemory>
         requires left { left.at < length self.old.cells }
         requires right { right.at < length self.old.cells }
-
-        // Names are compared by their places, so this holds under each table of names that has each
-        // name once.
-        ensures found { IfOk result (λ found. (names : List Name) → Names names self.old.cells →
-            mgu (subst_of names self.old) (shows names self.old.cells left.at) (shows names self.old.cells right.at)
-            ≡ (if found then Some (subst_of names self.new) else None)) }
+        ensures found { IfOk result (FindsUnifier self.old self.new left right) }
         ensures adds { AddsPairs self.old self.new }
         ensures unchanged { result ≢ Ok true → self.new ≡ self.old }
         ensures store { IsStore self.new }
@@ -163,8 +160,7 @@ impl Store {
     pub fn unifiable(&mut self, left: Ref, right: Ref) -> Result<bool, NoMemory>
         requires left { left.at < length self.old.cells }
         requires right { right.at < length self.old.cells }
-        ensures found { IfOk result (λ found. (names : List Name) → Names names self.old.cells →
-            found ≡ is_some (mgu (subst_of names self.old) (shows names self.old.cells left.at) (shows names self.old.cells right.at))) }
+        ensures found { IfOk result (IsUnifiable self.old left right) }
         ensures unchanged { self.new ≡ self.old }
         ensures store { IsStore self.new }
     {
@@ -172,31 +168,26 @@ impl Store {
         unifiable(&mut self.chains, alloc, left, right)
     }
 
-    /// A place for the body of a goal, which is seen under the bindings: a variable is called. In `,`,
-    /// `;` and `->` with two goals both are bodies in their turn, and every other goal is its own body
-    /// (ISO/IEC 13211-1, clause 7.6.2). None exactly where it has no body: an integer stands where a
-    /// goal should. A goal that is its own body stays at its place, and no cell is added.
+    /// A place for the body of a goal, which is seen under the bindings: a variable is called. In
+    /// `,`, `;` and `->` with two goals both are bodies in their turn, and every other goal is its
+    /// own body (ISO/IEC 13211-1, clause 7.6.2). None exactly where it has no body: an integer
+    /// stands where a goal should. A goal that is its own body stays at its place, and no cell is
+    /// added.
     ///
-    /// Answers `NoMemory` where the memory for it isn't had, and only for a variable and for two goals
-    /// that are joined. The store is as before then, and where there is no body.
+    /// Answers `NoMemory` where the memory for it isn't had, and only for a variable and for two
+    /// goals that are joined. The store is as before then, and where there is no body.
     pub fn body(&mut self, goal: Ref) -> Result<Option<Ref>, NoMemory>
         requires { goal.at < length self.old.cells }
-
-        // Names are compared by their places, so this holds under each table of names that has every
-        // atom of the cells.
-        ensures body { IfOk result (λ found. (names : List Name) → IsTable names → AreNamed (length names) self.old.cells →
-            option_map (λ at. seen names self.new at.at) found ≡ body (seen names self.old goal.at)) }
+        ensures body { IfOk result (FindsBody self.old self.new goal) }
         ensures own { IfOk result (KeepsOwn self.old self.new goal) }
         ensures memory { OnErr result (AsksMemory self.old goal) }
-        ensures place { IfOk result (λ found. IfSome found (λ at. at.at < length self.new.cells)) }
+        ensures place { IfOk result (IsWithin self.new) }
         ensures adds { AddsCells self.old self.new }
         ensures keeps { Keeps self.old self.new }
         ensures none { IfOk result (λ found. IfNone found (self.new ≡ self.old)) }
         ensures err { OnErr result (self.new ≡ self.old) }
         ensures store { IsStore self.new }
-
-        // A table of names that has `call` and every atom of the cells has every atom of the new ones.
-        ensures named { OnOk result ((n : ℕ) → CALL.at < n → AreNamed n self.old.cells → AreNamed n self.new.cells) }
+        ensures named { OnOk result (KeepsNames CALL self.old self.new) }
     {
         let alloc = *self.chains.pairs.allocator();
         body_of(&mut self.chains, alloc, goal)

@@ -34,10 +34,7 @@ fn makes_equal(alloc: Global) -> Result<bool, NoMemory> {
     })?;
     let left = store.instance(&head, root, 0)?;
     let equal = store.unify(left, right)?;
-    Ok(base == 0
-        && equal
-        && store.top(x) == Cell::Atom(A)
-        && store.top(y) == Cell::Atom(B))
+    Ok(base == 0 && equal && store.top(x) == Cell::Atom(A) && store.top(y) == Cell::Atom(B))
 }
 
 /// Whether a question binds nothing, and a copy is apart.

@@ -1,5 +1,5 @@
 -- What a run prepares is what is expected.
-use Rattle.std.proofs.Common.{◌≡◌, ℕ, ◌<◌, ◌≤◌, ◌++◌, List, [], ◌∷◌, length, map, Option, Some, None, MatchOption, is_some, nat_eq, Bool, true, false, true≢false, cond, refl, ap, sym, ◌∙◌, subst, inl, Result, Ok, Err, IfOk, IsTrue, chars}
+use Rattle.std.proofs.Common.{◌≡◌, ℕ, ◌+◌, ◌<◌, ◌≤◌, ◌++◌, append-nil, append_assoc, string_bytes, List, [], ◌∷◌, length, map, Option, Some, None, MatchOption, is_some, nat_eq, Bool, true, false, true≢false, cond, refl, ap, sym, ◌∙◌, subst, inl, Result, Ok, Err, IfOk, IsTrue, chars}
 use Rattle.std.proofs.lemmas.Bool.{le-ltb, lt-ltb}
 use Rattle.std.proofs.lemmas.Str.{chars-nil}
 use Rattle.std.specs.Prelude.{nat_lt}
@@ -15,7 +15,7 @@ use Rattle.tp_meaning.specs.Machine.{State, closed}
 use Rattle.tp_meaning.specs.Search.{Outcome, End, Fails, Stopped, Raised, Budget, try}
 use Rattle.tp_meaning.specs.Step.{search, searched}
 use Rattle.tp_meaning.specs.World.{World}
-use Rattle.tp_parse.specs.Ops.{table_of}
+use Rattle.tp_parse.specs.Ops.{Entries, table_of}
 use Rattle.tp_parse.specs.Table.{Table}
 use Rattle.tp_parse.specs.Tells.{Tells, TellsGoal, named_of}
 use Rattle.tp_parse.specs.Texts as read
@@ -36,18 +36,22 @@ use Rattle.tp_clauses.specs.declared.fault.LoadFault.{LoadFault}
 use Rattle.tp_clauses.specs.declared.fault.LoadFault.TheVariants as loading
 use Rattle.tp_engine.specs.declared.run.Ended as engine
 use Rattle.tp_engine.specs.Ended.{Finds, end_of, outcome_of}
+use Rattle.tp_engine.specs.Answers as taken
+use Rattle.tp_engine.specs.Answers.{Took, numbered}
 use Rattle.tp_engine.specs.Program.{goal_term}
-use Rattle.tp_engine.specs.Told.{IsStarted, Told, world_in}
+use Rattle.tp_engine.specs.Told.{IsSame, IsStarted, Told, world_in}
 use Rattle.tp_report.specs.declared.end.EndLine.{EndLine}
 use Rattle.tp_report.specs.declared.end.EndLine.TheVariants as last
 use Rattle.tp_top.specs.declared.run.Status.{Status}
 use Rattle.tp_top.specs.declared.run.Status.TheVariants as status
 use Rattle.tp_top.specs.Report.{Counts, counts_of, answers_text, end_by, with_last, report}
 use Rattle.tp_top.specs.Replies.{counts_in}
-use Rattle.tp_top.specs.Told.{found_in, for_read, model_in}
+use Rattle.tp_report.specs.Report.{world_answer_text}
+use Rattle.tp_top.specs.declared.lines.Lines.{Lines}
+use Rattle.tp_top.specs.Told.{AddsAnswer, found_in, for_read, model_in}
 use Rattle.tp_top.specs.Expected.{Request, request, Answer, budget, found, named_in, for_found, for_goal, for_model, for_text, for_held, expected_of, usage, too_long, model_refused, goal_refused}
 use Rattle.tp_top.specs.Ended.{IsPlain, OfUsage, OfExpected, Prepared}
-use Rattle.tp_top.proofs.ModelLemmas.{base-later}
+use Rattle.tp_engine.proofs.Worlds.Names.{base-later}
 
 some_same : {X : Type 0} (x y : X) → Some x ≡ Some y → x ≡ y
 some_same x y e = cc
@@ -58,7 +62,7 @@ some_same x y e = cc
 report-closed : (ops : Table) (named : List Named) (o : Outcome World Term) → report ops named (closed o) ≡ report ops named o
 report-closed ops named o = by o.how
   where
-    by : (e : End Term) → report ops named (closed (record o { how = e })) ≡ report ops named (record o { how = e })
+    by : (e : End World Term) → report ops named (closed (record o { how = e })) ≡ report ops named (record o { how = e })
     by (Fails s) = refl
     by Stopped = refl
     by (Raised t z) = refl
@@ -73,20 +77,29 @@ counts-same t e o f =
     ∙ ap (λ n. record { steps = o.steps; found = length o.answers; failed = o.failed; deadlock = o.deadlock; late = n }) f.late
 
 -- what is printed is made of counts and of an end that a run tells
-printed : (ops : Table) (named : List Named) (o : Outcome World Term) (t : Told) (e : engine.Ended) (text : List ℕ) → Finds o t e → text ≡ answers_text ops named o.answers → with_last text e.steps (end_by ops (counts_in e) (end_of t.seen e.how)) ≡ report ops named o
+printed : (ops : Table) (named : List Named) (o : Outcome World Term) (t : Told) (e : engine.Ended) (text : List ℕ) → Finds o t e → text ≡ answers_text ops named 0 o.answers → with_last text e.steps (end_by ops (counts_in e) (end_of t.seen e.how)) ≡ report ops named o
 printed ops named o t e text f shown =
     ap (λ c. with_last text e.steps (end_by ops c (end_of t.seen e.how))) (counts-same t e o f)
     ∙ ap (λ h. with_last text e.steps (end_by ops (counts_of o) h)) f.how
     ∙ ap (λ n. with_last text n (end_by ops (counts_of o) o.how)) f.steps
     ∙ ap (λ l. with_last l o.steps (end_by ops (counts_of o) o.how)) shown
 
+-- the lines of answers that were taken one after the other
+took-lines : (ops : Entries) (named : List Named) (n : ℕ) (answers : List (World × ℕ)) (before now : Lines) → Took (λ (old : Lines) (a : taken.Answer) (new : Lines). AddsAnswer a old new) before (numbered named ops n answers) now → chars (string_bytes now.text) ≡ chars (string_bytes before.text) ++ answers_text (table_of ops) named n answers
+took-lines ops named n [] before now is = ap (λ (l : Lines). chars (string_bytes l.text)) is ∙ sym (append-nil (chars (string_bytes before.text)))
+took-lines ops named n (a ∷ answers) before now (at, adds, rest) =
+    let first = world_answer_text (table_of ops) named (n + 1) a.0 a.1 in
+    let more = answers_text (table_of ops) named (n + 1) answers in
+    took-lines ops named (n + 1) answers at now rest ∙ ap (λ x. x ++ more) adds ∙ append_assoc (chars (string_bytes before.text)) first more
+
 -- the report of a run whose answers were added to a text without characters
-pub searched_report : (ops : Table) (named : List Named) (o : Outcome World Term) (t : Told) (e : engine.Ended) (begun text : List ℕ) → Finds o t e → begun ≡ [] → Some text ≡ added (Some (chars begun)) (answers_text ops named o.answers) → with_last text e.steps (end_by ops (counts_in e) (end_of t.seen e.how)) ≡ report ops named o
-searched_report ops named o t e begun text f none shown =
-    printed ops named o t e text f
-    (some_same text (chars begun ++ answers_text ops named o.answers) shown
-    ∙ ap (λ b. chars b ++ answers_text ops named o.answers) none
-    ∙ ap (λ b. b ++ answers_text ops named o.answers) chars-nil)
+pub searched_report : (old : Told) (o : Outcome World Term) (t : Told) (e : engine.Ended) (before now : Lines) → Finds o t e → IsSame old t → string_bytes before.text ≡ [] → Took (λ (old : Lines) (a : taken.Answer) (new : Lines). AddsAnswer a old new) before (numbered old.seen.named old.seen.ops 0 o.answers) now → with_last (chars (string_bytes now.text)) e.steps (end_by (table_of t.seen.ops) (counts_in e) (end_of t.seen e.how)) ≡ report (table_of old.seen.ops) old.seen.named o
+searched_report old o t e before now f same none took =
+    let ops = table_of old.seen.ops in
+    let lines = answers_text ops old.seen.named 0 o.answers in
+    ap (λ x. with_last (chars (string_bytes now.text)) e.steps (end_by (table_of x) (counts_in e) (end_of t.seen e.how))) same.ops
+    ∙ printed ops old.seen.named o t e (chars (string_bytes now.text)) f
+    (took-lines old.seen.ops old.seen.named 0 o.answers before now took ∙ ap (λ b. chars b ++ lines) none ∙ ap (λ b. b ++ lines) chars-nil)
 
 -- ---- goals
 
@@ -102,9 +115,10 @@ named-back [] = refl
 named-back (x ∷ xs) = ap (λ more. x ∷ more) (named-back xs)
 
 -- the answer to a goal that has a body
-pub read_answered : (names : List Name) (c : Contents) (g : ReadTerm) (t : Told) (a : Answer) → IsStarted names c g t → IsTrue (is_some (body (goal_term names g))) → a ≡ report (table_of c.ops) t.seen.named (outcome_of t 1000000 1) → a ≡ for_read (model_in names c) (found_in names g)
+pub read_answered : (names : List Name) (c : Contents) (g : ReadTerm) (t : Told) (a : Answer) → IsStarted names c g t → IsTrue (is_some (body (goal_term names g))) → a ≡ report (table_of t.seen.ops) t.seen.named (outcome_of t 1000000 1) → a ≡ for_read (model_in names c) (found_in names g)
 read_answered names c g t a s has told =
     told
+    ∙ ap (λ ops. report (table_of ops) t.seen.named (outcome_of t 1000000 1)) s.ops
     ∙ ap (λ vs. report (table_of c.ops) vs (outcome_of t 1000000 1)) (s.named ∙ sym (named-back g.named))
     ∙ ap (report (table_of c.ops) (named_in (map named_of g.named))) (outcome_is names c g t s)
     ∙ report-closed (table_of c.ops) (named_in (map named_of g.named)) (found (model_in names c) (found_in names g))
@@ -127,7 +141,7 @@ found_same names t f h =
     ∙ ap (λ x. record { term = f.term; named = f.named; vars = f.vars; from = f.from; to = x }) h.to
 
 model_later : (old new : List Name) (c : Contents) → Grows old new → AreNamed (length old) c.cells → model_in new c ≡ model_in old c
-model_later old new c grows named = ap (λ b. record { clauses = b; table = table_of c.ops }) (base-later old new c grows named)
+model_later old new c grows named = ap (λ b. record { clauses = b; table = table_of c.ops }) (base-later old new grows c named)
 
 -- the answer to a goal text that has a reading; its names are behind those of the base
 pub goal_answered : (old new : List Name) (c : Contents) (t : ReadTerm) (f : Found) (text : List ℕ) (a : Answer) → Grows old new → AreNamed (length old) c.cells → read.goal_of (table_of c.ops) text ≡ Ok f → Tells new t f → a ≡ for_read (model_in new c) (found_in new t) → a ≡ for_goal (model_in old c) text
@@ -170,7 +184,7 @@ long_answered text goal long = ap (λ b. cond b too_long (for_model (model text)
 
 -- ---- no answer has the status of a fault or of want of memory
 
-end_plain : (ops : Table) (c : Counts) (how : End Term) → IsPlain (end_by ops c how).0
+end_plain : (ops : Table) (c : Counts) (how : End World Term) → IsPlain (end_by ops c how).0
 end_plain ops c (Fails s) = by (nat_eq c.found 0)
   where
     by : (b : Bool) → let e : Status × EndLine = cond b (status.No, last.No c.failed c.deadlock c.late) (status.Found, last.NoMore c.failed c.deadlock c.late) in IsPlain e.0

@@ -1,5 +1,5 @@
 -- An engine's state as it is printed: what its bindings stand for is the substitution of its world.
-use Rattle.std.proofs.Common.{◌≡◌, ℕ, ◌+◌, ◌<◌, ◌≤◌, List, [], ◌∷◌, ◌++◌, map, length, take, slice_get, Some, chars, ℤ, refl, sym, ap, subst, ◌∙◌, arith, add-one}
+use Rattle.std.proofs.Common.{◌≡◌, ℕ, ◌+◌, ◌<◌, ◌≤◌, List, [], ◌∷◌, ◌++◌, map, length, take, slice_get, Option, Some, None, chars, ℤ, refl, sym, ap, subst, ◌∙◌, arith, add-one}
 use Rattle.std.proofs.Math.Seq.{take-suc}
 use Rattle.std.proofs.lemmas.Option.{slice_get_within, get_or_from_slice_get}
 use Rattle.std.proofs.lemmas.Str.{chars-nil}
@@ -17,9 +17,11 @@ use Rattle.tp_terms.specs.Term.{Name}
 use Rattle.tp_terms.specs.Shown.{name_at, shows}
 use Rattle.tp_terms.specs.Binds.{Fits}
 use Rattle.tp_meaning.specs.Subst.{value_at, apply}
-use Rattle.tp_meaning.specs.World.{World}
+use Rattle.tp_meaning.specs.World.{Item, Process, World}
+use Rattle.tp_meaning.proofs.Places.{map-at_place}
 use Rattle.tp_store.specs.Contents.{Contents, IsStore, seen, subst_of}
 use Rattle.tp_store.proofs.StoreLemmas.{value-bound, value-unbound}
+use Rattle.tp_parse.specs.Ops.{Entries, table_of}
 use Rattle.tp_parse.specs.Table.{Table}
 use Rattle.tp_write.specs.Text.{text}
 use Rattle.tp_write.specs.Under.{under}
@@ -29,10 +31,10 @@ use Rattle.tp_report.specs.Seen as report
 use Rattle.tp_report.specs.Seen.{kind_seen, event_seen, process_names}
 use Rattle.tp_report.specs.Worlds.{StandsFor}
 use Rattle.tp_engine.specs.Answers.{answer_in}
-use Rattle.tp_engine.specs.Plain.{Plain, event_of, kind_of, process_of}
-use Rattle.tp_engine.specs.Told as engine
+use Rattle.tp_engine.specs.Plain.{Plain, event_of, items_of, kind_of, process_of, with_running}
+use Rattle.tp_engine.specs.Stands as engine
 use Rattle.tp_engine.specs.Told.{Snapshot, IsSound, world_in, seen_in}
-use Rattle.tp_top.specs.Report.{shown}
+use Rattle.tp_top.specs.Told.{shown}
 
 -- the term of a place with all bindings followed is the term that is seen in the store
 pub under-seen : (names : List Name) (c : Contents) → IsStore c → Fits c.pairs c.cells → (at : ℕ) → under names c.pairs c.cells at ≡ seen names c at
@@ -62,6 +64,11 @@ events-seen names c (e ∷ es) =
 names-seen : (names : List Name) (p : Plain) (qs : List Proc) → map (λ q. q.name) (map (process_of names p) qs) ≡ process_names names (map (λ q. q.name) qs)
 names-seen names p [] = refl
 names-seen names p (q ∷ qs) = ap (λ more. name_at names q.name.at ∷ more) (names-seen names p qs)
+
+-- the items of a process that runs don't change its name
+running-named : (r : Option ℕ) (is : List Item) (ps : List Process) → map (λ (p : Process). p.name) (with_running r is ps) ≡ map (λ (p : Process). p.name) ps
+running-named None is ps = refl
+running-named (Some r) is ps = map-at_place (λ (p : Process). p.name) (λ (p : Process). record p { items = is }) (λ p. refl) r ps
 
 all-named : (n : ℕ) (qs : List Proc) → AllByRecursion (λ q. q.name.at < n) qs → AllByRecursion (λ a. a.at < n) (map (λ q. q.name) qs)
 all-named n [] h = tt
@@ -106,13 +113,15 @@ stands-for s processes sound same = record {
   bound = λ v place e. value-bound s.names s.plain.store v place sound.store e;
   unbound = λ v e. value-unbound s.names s.plain.store v sound.store e;
   history = events-seen s.names s.plain.store s.plain.events;
-  named = names-seen s.names s.plain s.plain.procs ∙ ap (process_names s.names) (sym same);
+  named =
+      running-named s.plain.running (items_of s.names s.plain s.plain.items) (map (process_of s.names s.plain) s.plain.procs)
+      ∙ names-seen s.names s.plain s.plain.procs ∙ ap (process_names s.names) (sym same);
   time = refl;
 }
 
 -- the lines of an answer are those of the engine's world
-pub answer-shown : (ops : Table) (s : Snapshot) (table : List Name) (store : Contents) (cells : List Cell) (processes : List AtomId) (events : List Event) (clock : ℤ) (number steps : ℕ) (named : List Named) (lines : List ℕ) → IsSound s → table ≡ s.names → store ≡ s.plain.store → cells ≡ s.plain.store.cells → AreProcesses s processes → events ≡ s.plain.events → clock ≡ s.plain.clock → number ≡ s.number → steps ≡ s.steps → named ≡ s.named → ((w : World) → StandsFor table store.pairs cells processes events clock w → lines ≡ world_answer_text ops named number w steps) → lines ≡ shown ops (answer_in s)
-answer-shown ops s table store cells processes events clock number steps named lines sound t st ce same ev cl nu sp na told =
+pub answer-shown : (s : Snapshot) (ops : Entries) (table : List Name) (store : Contents) (cells : List Cell) (processes : List AtomId) (events : List Event) (clock : ℤ) (number steps : ℕ) (named : List Named) (lines : List ℕ) → IsSound s → table ≡ s.names → store ≡ s.plain.store → cells ≡ s.plain.store.cells → AreProcesses s processes → events ≡ s.plain.events → clock ≡ s.plain.clock → number ≡ s.number → steps ≡ s.steps → named ≡ s.named → ops ≡ s.ops → ((w : World) → StandsFor table store.pairs cells processes events clock w → lines ≡ world_answer_text (table_of ops) named number w steps) → lines ≡ shown (answer_in s)
+answer-shown s ops table store cells processes events clock number steps named lines sound t st ce same ev cl nu sp na op told =
     let w = world_in s in
     told w
     (subst (λ x. StandsFor x store.pairs cells processes events clock w) (sym t)
@@ -121,9 +130,10 @@ answer-shown ops s table store cells processes events clock number steps named l
     (subst (λ x. StandsFor s.names s.plain.store.pairs s.plain.store.cells processes x clock w) (sym ev)
     (subst (λ x. StandsFor s.names s.plain.store.pairs s.plain.store.cells processes s.plain.events x w) (sym cl)
     (stands-for s processes sound same))))))
-    ∙ ap (λ x. world_answer_text ops x number w steps) na
-    ∙ ap (λ x. world_answer_text ops s.named x w steps) nu
-    ∙ ap (λ x. world_answer_text ops s.named s.number w x) sp
+    ∙ ap (λ x. world_answer_text (table_of x) named number w steps) op
+    ∙ ap (λ x. world_answer_text (table_of s.ops) x number w steps) na
+    ∙ ap (λ x. world_answer_text (table_of s.ops) s.named x w steps) nu
+    ∙ ap (λ x. world_answer_text (table_of s.ops) s.named s.number w x) sp
 
 -- ---- the names of processes, one after the other
 
@@ -140,9 +150,11 @@ all-names qs n names e le = e ∙ take_all n (map (λ (q : Proc). q.name) qs) (o
 
 -- ---- the term of an error
 
-pub error-written : (ops : Table) (s : Snapshot) (names : List Name) (c : Contents) (cells : List Cell) (at : Ref) (begun new written : List ℕ) → IsSound s → names ≡ s.names → c ≡ s.plain.store → cells ≡ s.plain.store.cells → begun ≡ [] → new ≡ chars begun ++ text ops 1200 (under names c.pairs cells at.at) → written ≡ new → written ≡ text ops 1200 (seen_in s at)
-error-written ops s names c cells at begun new written sound n st ce none more is =
+pub error-written : (s : Snapshot) (ops : Entries) (names : List Name) (c : Contents) (cells : List Cell) (at : Ref) (begun new written : List ℕ) → IsSound s → names ≡ s.names → c ≡ s.plain.store → cells ≡ s.plain.store.cells → begun ≡ [] → ops ≡ s.ops → new ≡ chars begun ++ text (table_of ops) 1200 (under names c.pairs cells at.at) → written ≡ new → written ≡ text (table_of s.ops) 1200 (seen_in s at)
+error-written s asked names c cells at begun new written sound n st ce none op more is =
+    let ops = table_of s.ops in
     is ∙ more
+    ∙ ap (λ x. chars begun ++ text (table_of x) 1200 (under names c.pairs cells at.at)) op
     ∙ ap (λ b. chars b ++ text ops 1200 (under names c.pairs cells at.at)) none
     ∙ ap (λ b. b ++ text ops 1200 (under names c.pairs cells at.at)) chars-nil
     ∙ ap (λ x. text ops 1200 (under x c.pairs cells at.at)) n

@@ -1,5 +1,5 @@
 -- What is printed of a search: its answers, and its last line.
-use Rattle.std.specs.Prelude.{ℕ, nat_eq, List, ◌++◌, length, encode_utf8_all, if◌then◌else◌}
+use Rattle.std.specs.Prelude.{ℕ, ◌+◌, nat_eq, List, [], ◌∷◌, ◌++◌, length, encode_utf8_all, if◌then◌else◌}
 use Rattle.tp_terms.specs.Term.{Term}
 use Rattle.tp_terms.specs.declared.text.Named.{Named}
 use Rattle.tp_meaning.specs.World.{World}
@@ -10,19 +10,16 @@ use Rattle.tp_report.specs.Report.{world_answer_text}
 use Rattle.tp_report.specs.End.{last_line}
 use Rattle.tp_report.specs.declared.end.EndLine.{EndLine}
 use Rattle.tp_report.specs.declared.end.EndLine.TheVariants as last
-use Rattle.tp_engine.specs.Answers.{Answer, numbered, text_of}
 use Rattle.tp_top.specs.declared.run.Status.{Status}
 use Rattle.tp_top.specs.declared.run.Status.TheVariants as status
 
 -- ---- answers
 
--- the lines of an answer
-abbrev pub shown : Table → Answer → List ℕ
-shown ops a = world_answer_text ops a.named a.number a.world a.steps
-
--- the lines of answers in their order, numbered from 1
-abbrev pub answers_text : Table → List Named → List (World × ℕ) → List ℕ
-answers_text ops named answers = text_of (shown ops) (numbered named 0 answers)
+-- the lines of answers in their order, numbered from the number after this one
+abbrev pub answers_text : Table → List Named → ℕ → List (World × ℕ) → List ℕ
+answers_text ops named n [] = []
+answers_text ops named n (a ∷ answers) =
+    world_answer_text ops named (n + 1) a.0 a.1 ++ answers_text ops named (n + 1) answers
 
 -- ---- the last line
 
@@ -38,10 +35,10 @@ abbrev pub counts_of : Outcome World Term → Counts
 counts_of o = record { steps = o.steps; found = length o.answers; failed = o.failed; deadlock = o.deadlock; late = o.late }
 
 -- the status of a search and its last line; an error's term may have any priority
-abbrev pub end_by : Table → Counts → End Term → Status × EndLine
+abbrev pub end_by : Table → Counts → End World Term → Status × EndLine
 end_by ops c (Fails stamp) = if nat_eq c.found 0 then (status.No, last.No c.failed c.deadlock c.late) else (status.Found, last.NoMore c.failed c.deadlock c.late)
 end_by ops c Stopped = (status.Found, last.Stopped)
-end_by ops c (Raised t clock) = (status.Raised, last.Raised (text ops 1200 t) clock)
+end_by ops c (Raised t w) = (status.Raised, last.Raised (text ops 1200 t) w.clock)
 end_by ops c Budget = (status.Budget, last.Budget)
 
 -- ---- the report
@@ -52,4 +49,4 @@ with_last text steps end = (end.0, encode_utf8_all (text ++ last_line end.1 step
 
 -- the status of a search, and the lines of all its answers and its last line
 abbrev pub report : Table → List Named → Outcome World Term → Status × List ℕ
-report ops named o = with_last (answers_text ops named o.answers) o.steps (end_by ops (counts_of o) o.how)
+report ops named o = with_last (answers_text ops named 0 o.answers) o.steps (end_by ops (counts_of o) o.how)

@@ -1,5 +1,5 @@
--- The model that a base has, and the goal that a read term is, under a table of names.
-use Rattle.std.specs.Prelude.{List, map}
+-- The model that a base has, the goal that a read term is, and the lines of an engine's answer.
+use Rattle.std.specs.Prelude.{◌≡◌, ℕ, List, ◌++◌, chars, map, string_bytes}
 use Rattle.tp_terms.specs.Term.{Name}
 use Rattle.tp_parse.specs.Ops.{table_of}
 use Rattle.tp_parse.specs.Texts.{Found}
@@ -10,6 +10,9 @@ use Rattle.tp_clauses.specs.Contents.{Contents, base_of}
 use Rattle.tp_clauses.specs.Goal.{with_body}
 use Rattle.tp_clauses.specs.Model.{Model}
 use Rattle.tp_engine.specs.Program.{goal_term}
+use Rattle.tp_engine.specs.Answers as engine
+use Rattle.tp_report.specs.Report.{world_answer_text}
+use Rattle.tp_top.specs.declared.lines.Lines.{Lines}
 use Rattle.tp_top.specs.Expected.{Answer, for_found}
 
 abbrev pub model_in : List Name → Contents → Model
@@ -21,3 +24,11 @@ found_in names t = record { term = goal_term names t; named = map named_of t.nam
 -- the answer to a goal that was read, which may have no body
 abbrev pub for_read : Model → Found → Answer
 for_read m f = for_found m (with_body f (body f.term))
+
+-- the lines of an answer
+abbrev pub shown : engine.Answer → List ℕ
+shown a = world_answer_text (table_of a.ops) a.named a.number a.world a.steps
+
+-- the lines of an answer were added
+abbrev pub AddsAnswer : engine.Answer → Lines → Lines → Type 0
+AddsAnswer a old new = chars (string_bytes new.text) ≡ chars (string_bytes old.text) ++ shown a

@@ -18,25 +18,26 @@ use std::alloc::Global;
 use tp_clauses::{Base, Cause, LoadFault};
 use tp_engine::{Engine, StartFault};
 use tp_outside::LONGEST_TEXT;
-use tp_parse::{Ops, ReadFault, ReadTerm, read_goal};
+use tp_parse::{ReadFault, ReadTerm, read_goal};
 use tp_terms::{Atoms, NoMemory};
 
 /// The most steps of a search.
 const MOST_STEPS: u64 = 1_000_000;
 
 /// The report of the search that an engine stands at the start of.
-fn search(alloc: Global, ops: &Ops, mut engine: Engine<'_>) -> Result<Reply, NoMemory>
+fn search(alloc: Global, mut engine: Engine<'_>) -> Result<Reply, NoMemory>
     requires { MayRun engine.phase }
-    ensures { IfOk result (λ reply. view_of reply ≡ report_of (table_of ops.now) engine.entry.seen.named (outcome_of engine.entry 1000000 1)) }
+    ensures { IfOk result (λ reply.
+        view_of reply ≡ report_of (table_of engine.entry.seen.ops) engine.entry.seen.named
+        (outcome_of engine.entry 1000000 1)) }
 {
     let mut lines = Lines {
-        ops,
         text: String::new(alloc),
     };
     match engine.run_to_end(MOST_STEPS, 1, &mut lines) {
         Ok(ended) => {
-            let Lines { text, .. } = lines;
-            report(alloc, text, ops, &engine.view(), &ended)
+            let Lines { text } = lines;
+            report(alloc, text, &engine.view(), &ended)
         }
         Err(_) => Err(NoMemory),
     }
@@ -49,7 +50,7 @@ fn answer_read(alloc: Global, base: &Base, atoms: Atoms, goal: &ReadTerm) -> Res
     ensures { IfOk result (λ reply. view_of reply ≡ for_read (model_in atoms base.now) (found_in atoms goal.now)) }
 {
     match Engine::new(alloc, base, atoms, goal) {
-        Ok(engine) => search(alloc, base.ops(), engine),
+        Ok(engine) => search(alloc, engine),
         Err(StartFault::Body) => goal_refused(alloc, goal.from, Cause::Body),
         Err(StartFault::NoMemory) => Err(NoMemory),
     }

@@ -13,7 +13,6 @@ ghost use Rattle.tp_top.specs.Replies.{counts_in, view_of};
 use crate::run::Status;
 use std::alloc::Global;
 use tp_engine::{AnswerView, Ended, How};
-use tp_parse::Ops;
 use tp_report::{EndLine, end_text};
 use tp_terms::{NoMemory, Ref, Text};
 use tp_write::write_term;
@@ -41,10 +40,10 @@ impl Reply {
 const ANY_PRIORITY: u16 = 1200;
 
 /// The written form of an error's term.
-fn error_text(alloc: Global, view: &AnswerView<'_>, ops: &Ops, term: Ref) -> Result<Text, NoMemory>
+fn error_text(alloc: Global, view: &AnswerView<'_>, term: Ref) -> Result<Text, NoMemory>
     requires sound { IsSound view.now }
     requires stands { term.at < length view.now.plain.store.cells }
-    ensures { IfOk result (λ written. written ≡ term_text (table_of ops.now) 1200 (seen_in view.now term)) }
+    ensures { IfOk result (λ written. written ≡ term_text (table_of view.now.ops) 1200 (seen_in view.now term)) }
 {
     let mut text = String::new(alloc);
     write_term(
@@ -53,7 +52,7 @@ fn error_text(alloc: Global, view: &AnswerView<'_>, ops: &Ops, term: Ref) -> Res
         term,
         view.store(),
         ANY_PRIORITY,
-        ops,
+        view.ops(),
         view.atoms(),
         &mut text,
     )?;
@@ -92,18 +91,17 @@ fn no_more(ended: &Ended) -> (Status, EndLine)
 fn end_of_search(
     alloc: Global,
     view: &AnswerView<'_>,
-    ops: &Ops,
     ended: &Ended,
 ) -> Result<(Status, EndLine), NoMemory>
     requires sound { IsSound view.now }
     requires raised { RaisedStands view.now ended.now.how }
-    ensures { IfOk result (λ end. end ≡ end_by (table_of ops.now) (counts_in ended.now) (end_of view.now ended.now.how)) }
+    ensures { IfOk result (λ end. end ≡ end_by (table_of view.now.ops) (counts_in ended.now) (end_of view.now ended.now.how)) }
 {
     match ended.how {
         How::NoMore => Ok(no_more(ended)),
         How::Stopped => Ok((Status::Found, EndLine::Stopped)),
         How::Raised { term, clock } => {
-            let term = error_text(alloc, view, ops, term)?;
+            let term = error_text(alloc, view, term)?;
             Ok((Status::Raised, EndLine::Raised { term, clock }))
         }
         How::Budget => Ok((Status::Budget, EndLine::Budget)),
@@ -114,15 +112,14 @@ fn end_of_search(
 pub fn report(
     alloc: Global,
     mut text: String,
-    ops: &Ops,
     view: &AnswerView<'_>,
     ended: &Ended,
 ) -> Result<Reply, NoMemory>
     requires sound { IsSound view.now }
     requires raised { RaisedStands view.now ended.now.how }
-    ensures { IfOk result (λ reply. view_of reply ≡ with_last (chars (string_bytes text)) ended.now.steps (end_by (table_of ops.now) (counts_in ended.now) (end_of view.now ended.now.how))) }
+    ensures { IfOk result (λ reply. view_of reply ≡ with_last (chars (string_bytes text)) ended.now.steps (end_by (table_of view.now.ops) (counts_in ended.now) (end_of view.now ended.now.how))) }
 {
-    let (status, end) = end_of_search(alloc, view, ops, ended)?;
+    let (status, end) = end_of_search(alloc, view, ended)?;
     end_text(&end, ended.steps, &mut text)?;
     Ok(Reply { status, text })
 }

@@ -50,6 +50,6 @@ reserved_own f ts = (to (goal_kind f (count_of ts)) refl, from (goal_kind f (cou
     from : (o : Option GoalKind) → goal_kind f (count_of ts) ≡ o → ((base : Base) (t : Turn) (b : ℕ) → goal_step base t b (term_of f ts) ≡ goal_step [] t b (term_of f ts)) → IsTrue (is_some (goal_kind f (count_of ts)))
     from None e h = absurd (
         let z : Err (unknown f (count_of ts)) ≡ Ok (some (worlds_of some_turn (term_of f ts) (own_clause f ts ∷ []))) =
-            sym (by [] some_turn 0 None e) ∙ sym (h (own_clause f ts ∷ []) some_turn 0) ∙ by (own_clause f ts ∷ []) some_turn 0 None e ∙ defined f ts in
+        sym (by [] some_turn 0 None e) ∙ sym (h (own_clause f ts ∷ []) some_turn 0) ∙ by (own_clause f ts ∷ []) some_turn 0 None e ∙ defined f ts in
         cc)
     from (Some k) e h = ap is_some e

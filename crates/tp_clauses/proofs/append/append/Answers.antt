@@ -1,5 +1,5 @@
 use Rattle.std.proofs.Common.{◌-◌, ◌++◌, ◌∷◌, [], ap, ◌∙◌}
-use Rattle.tp_clauses.proofs.MovedLemmas.{append_turn}
+use Rattle.tp_clauses.proofs.Clauses.Moved.{append_turn}
 use Rattle.tp_clauses.proofs.append.append.Goals as goal
 
 pub loop-at-preserved : goal.loop-at-preserved

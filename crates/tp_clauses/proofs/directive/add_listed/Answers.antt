@@ -7,7 +7,7 @@ use Rattle.tp_parse.specs.Ops.{table_of}
 use Rattle.std.proofs.lemmas.Int.{ints, to_z-of_z}
 use Rattle.tp_clauses.specs.Directives.{listed_names}
 use Rattle.tp_clauses.specs.Told.{each_added, added_or_none}
-use Rattle.tp_clauses.proofs.DirectiveLemmas.{Listed, listed, each_step, each_stops, told_err}
+use Rattle.tp_clauses.proofs.Taking.Directives.{Listed, listed, each_step, each_stops, told_err}
 use Rattle.tp_clauses.proofs.directive.add_listed.Goals as goal
 
 pub returns-in-End : goal.returns-in-End

@@ -5,8 +5,8 @@ use Rattle.std.proofs.lemmas.Int.{ints, to_z-of_z}
 use Rattle.tp_clauses.specs.Directives.{allows, op_names, listed_names}
 use mir.Val.{SFits}
 use Rattle.tp_clauses.specs.Told.{TellsDirective, each_added}
-use Rattle.tp_clauses.proofs.DirectiveLemmas.{lone-named, names_refused, names_allowed, op_names-lone, one_added}
-use Rattle.tp_clauses.proofs.KindLemmas.{allows-named}
+use Rattle.tp_clauses.proofs.Taking.Directives.{lone-named, names_refused, names_allowed, op_names-lone, one_added}
+use Rattle.tp_clauses.proofs.Taking.StartNames.{allows-named}
 use Rattle.tp_clauses.proofs.directive.add_names.Goals as goal
 
 pub returns-then-not-allows-clause-told : goal.returns-then-not-allows-clause-told

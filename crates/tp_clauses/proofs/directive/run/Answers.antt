@@ -2,7 +2,7 @@ use Rattle.std.proofs.Common.{sym, subst}
 use Rattle.tp_terms.specs.Shown.{shows}
 use Rattle.tp_parse.specs.Ops.{table_of}
 use Rattle.tp_clauses.specs.Told.{TellsDirective}
-use Rattle.tp_clauses.proofs.DirectiveLemmas.{Runs, operators_run}
+use Rattle.tp_clauses.proofs.Taking.Directives.{Runs, operators_run}
 use Rattle.tp_clauses.proofs.directive.run.Goals as goal
 
 pub add_names-requires-clause-within : goal.add_names-requires-clause-within

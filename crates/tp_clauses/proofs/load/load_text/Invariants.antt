@@ -1,5 +1,5 @@
 use Rattle.tp_terms.specs.Names.{Grows}
-use Rattle.tp_clauses.proofs.LoadLemmas.{IsLoading}
+use Rattle.tp_clauses.proofs.Loading.Text.{IsLoading}
 use Rattle.tp_clauses.proofs.load.load_text.Given as goal
 
 abbrev pub invariant-terms : goal.invariant-terms

@@ -1,6 +1,6 @@
 use Rattle.tp_parse.specs.Ops.{table_of}
-use Rattle.tp_clauses.proofs.LoadLemmas.{named-grows}
-use Rattle.tp_clauses.proofs.ReadingLemmas.{reads_below, token_ahead, read_steps, read_refused}
+use Rattle.tp_clauses.proofs.Loading.Text.{named-grows}
+use Rattle.tp_clauses.proofs.Loading.ReadTerm.{reads_below, token_ahead, read_steps, read_refused}
 use Rattle.tp_clauses.proofs.load.read_next.Goals as goal
 
 pub take_read-requires-clause-below : goal.take_read-requires-clause-below

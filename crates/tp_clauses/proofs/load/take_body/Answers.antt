@@ -9,7 +9,7 @@ use Rattle.tp_clauses.specs.Model.{OfClause}
 use Rattle.tp_clauses.specs.Moved.{place_on}
 use Rattle.tp_clauses.specs.Told.{outcome}
 use Rattle.tp_clauses.specs.declared.fault.Cause.{Cause}
-use Rattle.tp_clauses.proofs.TermLemmas.{clause_taken, longer_both, term_within, rule_fits, rule_key, rule_named, rule_told, rule_bodiless, rule_integer}
+use Rattle.tp_clauses.proofs.Taking.Terms.{clause_taken, longer_both, term_within, rule_fits, rule_key, rule_named, rule_told, rule_bodiless, rule_integer}
 use Rattle.tp_clauses.proofs.load.take_body.Goals as goal
 
 pub body_of-requires-clause-within : goal.body_of-requires-clause-within

@@ -8,7 +8,7 @@ use Rattle.tp_clauses.specs.Model.{OfClause}
 use Rattle.tp_clauses.specs.Moved.{place_on}
 use Rattle.tp_clauses.specs.Told.{outcome}
 use Rattle.tp_clauses.specs.declared.fault.Cause.{Cause}
-use Rattle.tp_clauses.proofs.TermLemmas.{clause_taken, fact_fits, fact_told, head_refused, moved_key, named_behind}
+use Rattle.tp_clauses.proofs.Taking.Terms.{clause_taken, fact_fits, fact_told, head_refused, moved_key, named_behind}
 use Rattle.tp_clauses.proofs.load.take_fact.Goals as goal
 
 pub add_clause-requires-clause-fits : goal.add_clause-requires-clause-fits

@@ -4,7 +4,7 @@ use Rattle.tp_parse.specs.Ops.{table_of}
 use Rattle.tp_meaning.specs.Body.{body}
 use Rattle.tp_clauses.specs.Model.{OfClause}
 use Rattle.tp_clauses.specs.Told.{outcome}
-use Rattle.tp_clauses.proofs.TermLemmas.{head_refused, refused_rule}
+use Rattle.tp_clauses.proofs.Taking.Terms.{head_refused, refused_rule}
 use Rattle.tp_clauses.proofs.load.take_rule.Goals as goal
 
 pub returns-in-Err-clause-told : goal.returns-in-Err-clause-told

@@ -4,7 +4,7 @@ use Rattle.tp_parse.specs.Ops.{table_of}
 use Rattle.tp_clauses.specs.Model.{kind_of}
 use Rattle.tp_clauses.specs.Directives.{directive}
 use Rattle.tp_clauses.specs.Told.{outcome, TellsTerm}
-use Rattle.tp_clauses.proofs.TermLemmas.{KindIs, PartsOf, kind_told, parts_told, directive_taken}
+use Rattle.tp_clauses.proofs.Taking.Terms.{KindIs, PartsOf, kind_told, parts_told, directive_taken}
 use Rattle.tp_clauses.proofs.load.take_term.Goals as goal
 
 pub run-requires-clause-within : goal.run-requires-clause-within

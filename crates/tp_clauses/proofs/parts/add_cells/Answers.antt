@@ -1,6 +1,6 @@
 use Rattle.std.proofs.Common.{length, map, refl}
 use Rattle.tp_clauses.specs.Moved.{moved}
-use Rattle.tp_clauses.proofs.PartsLemmas.{longer_ok}
+use Rattle.tp_clauses.proofs.Clauses.Added.{longer_ok}
 use Rattle.tp_clauses.proofs.parts.add_cells.Goals as goal
 
 pub returns-clause-longer : goal.returns-clause-longer

@@ -1,6 +1,6 @@
 use Rattle.std.proofs.Common.{◌≡◌, ◌++◌, ◌∷◌, [], length, ap, ◌∙◌, arith, refl, if◌then◌else◌}
 use Rattle.tp_clauses.specs.Indexed.{ids_in, same_key}
-use Rattle.tp_clauses.proofs.PartsLemmas.{clause_added, id_at}
+use Rattle.tp_clauses.proofs.Clauses.Added.{clause_added, id_at}
 use Rattle.tp_clauses.proofs.parts.add_clause.Goals as goal
 
 pub returns : goal.returns

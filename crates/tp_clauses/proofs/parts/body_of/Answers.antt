@@ -1,5 +1,5 @@
 use Rattle.std.proofs.Common.{refl}
-use Rattle.tp_clauses.proofs.PartsLemmas.{body_ok}
+use Rattle.tp_clauses.proofs.Clauses.Added.{body_ok}
 use Rattle.tp_clauses.proofs.parts.body_of.Goals as goal
 
 pub returns : goal.returns

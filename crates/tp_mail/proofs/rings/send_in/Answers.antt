@@ -1,6 +1,7 @@
 use Rattle.std.proofs.Common.{◌∙◌, ap, ◌++◌, [], ◌∷◌}
 use Rattle.std.proofs.lemmas.Result.{MatchResult-weaker}
-use Rattle.tp_mail.specs.Mail.{at_box, front, boxes_of}
+use Rattle.tp_log.specs.Front.{front}
+use Rattle.tp_mail.specs.Mail.{at_box, boxes_of}
 use Rattle.tp_mail.proofs.OneBox.{box_changed, box_same, rooms_more, send_back}
 use Rattle.tp_mail.proofs.rings.send_in.Goals as goal
 

@@ -1,5 +1,5 @@
 use Rattle.std.proofs.Common.{rules, ◌∙◌, ap, ◌-◌, take}
-use Rattle.tp_mail.specs.Mail.{front}
+use Rattle.tp_log.specs.Front.{front}
 use Rattle.tp_mail.proofs.OneBox.{box_changed, rooms_same}
 use Rattle.tp_mail.proofs.rings.undo_send_in.Goals as goal
 

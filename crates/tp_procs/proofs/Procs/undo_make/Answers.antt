@@ -2,7 +2,8 @@ use Rattle.std.proofs.Common.{◌≡◌, ◌∙◌, ◌++◌, ◌∷◌, [], sym
 use Rattle.std.proofs.lemmas.List.{length-take-le}
 use Rattle.tp_procs.specs.Processes.{named, names_of, AreDistinct}
 use Rattle.tp_procs.specs.Tree.{IsTree}
-use Rattle.tp_procs.proofs.Kept.{indexed-pop, free-front, same-front}
+use Rattle.tp_procs.proofs.Kept.{indexed-pop, free-front}
+use Rattle.tp_log.proofs.Fronts.{same-front}
 use Rattle.tp_procs.proofs.Mended.{tree-popped, tree-lent}
 use Rattle.tp_procs.proofs.Procs.undo_make.Goals as goal
 

@@ -1,6 +1,6 @@
 use Rattle.std.proofs.Common.{sym, ◌∙◌}
 use Rattle.tp_store.specs.Chain.{contents_of}
-use Rattle.tp_store.proofs.BodyLemmas.{asks_for, on_any_err, plain_own}
+use Rattle.tp_store.proofs.Bodies.Converted.{asks_for, on_any_err, plain_own}
 use Rattle.tp_store.proofs.body.body_of.Goals as goal
 
 pub returns-in-Plain-clause-body : goal.returns-in-Plain-clause-body

@@ -1,5 +1,5 @@
 use Rattle.tp_store.specs.Chain.{contents_of}
-use Rattle.tp_store.proofs.BodyLemmas.{called_shown, called_named}
+use Rattle.tp_store.proofs.Bodies.Converted.{called_shown, called_named}
 use Rattle.tp_store.proofs.body.called.Goals as goal
 
 pub returns-clause-shown : goal.returns-clause-shown

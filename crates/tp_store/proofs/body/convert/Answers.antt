@@ -7,8 +7,8 @@ use Rattle.tp_store.specs.declared.body.Job.TheVariants.{Convert, Join}
 use Rattle.tp_store.specs.Bodies.{Goes, Looked, jobs_size}
 use Rattle.tp_store.specs.Chain.{contents_of}
 use Rattle.tp_store.specs.Contents.{seen}
-use Rattle.tp_store.proofs.CopyLemmas.{newest_first, is_some_not, zero_unless, nothing_left}
-use Rattle.tp_store.proofs.BodyLemmas.{goes_on, no_body, done, join_smaller, first_made, none_own, own_at}
+use Rattle.tp_store.proofs.Copies.Rows.{newest_first, is_some_not, zero_unless, nothing_left}
+use Rattle.tp_store.proofs.Bodies.Converted.{goes_on, no_body, done, join_smaller, first_made, none_own, own_at}
 use Rattle.tp_store.proofs.body.convert.Goals as goal
 
 pub returns-then-not-branch-clause-body : goal.returns-then-not-branch-clause-body

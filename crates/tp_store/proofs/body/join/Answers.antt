@@ -4,8 +4,8 @@ use Rattle.tp_store.specs.declared.body.Job.TheVariants.{Join}
 use Rattle.tp_store.specs.Bodies.{AreJobs, Goes}
 use Rattle.tp_store.specs.Chain.{contents_of}
 use Rattle.tp_store.specs.Work.{AreIn}
-use Rattle.tp_store.proofs.CopyLemmas.{newest_first}
-use Rattle.tp_store.proofs.BodyLemmas.{joined_on, ok_value, pairs_same}
+use Rattle.tp_store.proofs.Copies.Rows.{newest_first}
+use Rattle.tp_store.proofs.Bodies.Converted.{joined_on, ok_value, pairs_same}
 use Rattle.tp_store.proofs.body.join.Goals as goal
 
 pub returns-clause-step : goal.returns-clause-step

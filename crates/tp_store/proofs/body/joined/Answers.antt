@@ -1,5 +1,5 @@
 use Rattle.tp_store.specs.Chain.{contents_of}
-use Rattle.tp_store.proofs.BodyLemmas.{joined_shown, joined_named}
+use Rattle.tp_store.proofs.Bodies.Converted.{joined_shown, joined_named}
 use Rattle.tp_store.proofs.body.joined.Goals as goal
 
 pub returns-clause-shown : goal.returns-clause-shown

@@ -3,8 +3,8 @@ use Rattle.tp_terms.specs.declared.cells.Ref.{Ref}
 use Rattle.tp_store.specs.declared.body.Job.{Job}
 use Rattle.tp_store.specs.Bodies.{Looked}
 use Rattle.tp_store.specs.Chain.{contents_of}
-use Rattle.tp_store.proofs.CopyLemmas.{newest_first}
-use Rattle.tp_store.proofs.BodyLemmas.{looked_plain, looked_variable, looked_pair}
+use Rattle.tp_store.proofs.Copies.Rows.{newest_first}
+use Rattle.tp_store.proofs.Bodies.Converted.{looked_plain, looked_variable, looked_pair}
 use Rattle.tp_store.proofs.body.look_at.Goals as goal
 
 pub returns-in_ok-push-in-Variable-clause-step : goal.returns-in_ok-push-in-Variable-clause-step

@@ -1,7 +1,7 @@
 use Rattle.std.proofs.Common.{◌≡◌, ◌+◌, ◌++◌, ◌∷◌, [], length, reverse, sym, ap, subst, ◌∙◌, arith}
 use Rattle.std.specs.Option.{option_to_list}
 use Rattle.tp_store.specs.declared.chains.Chains.{Chains}
-use Rattle.tp_store.proofs.CopyLemmas.{IsRow, row_start, row_ready, row_turn, is_some_not}
+use Rattle.tp_store.proofs.Copies.Rows.{IsRow, row_start, row_ready, row_turn, is_some_not}
 use Rattle.tp_store.proofs.copy.build.Goals as goal
 use Rattle.tp_store.proofs.copy.build.Goals.{in-Some+in_ok-place, in_default}
 

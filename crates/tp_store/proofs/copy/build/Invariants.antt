@@ -1,5 +1,5 @@
 use Rattle.std.proofs.Common.{length, reverse}
-use Rattle.tp_store.proofs.CopyLemmas.{IsRow}
+use Rattle.tp_store.proofs.Copies.Rows.{IsRow}
 use Rattle.tp_store.proofs.copy.build.Given as goal
 
 abbrev pub invariant-row : goal.invariant-row

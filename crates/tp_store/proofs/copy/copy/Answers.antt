@@ -3,8 +3,8 @@ use Rattle.std.specs.Prelude.{vec_len}
 use Rattle.std.specs.Option.{option_to_list}
 use Rattle.tp_store.specs.declared.copy.Task.TheVariants.{Copy, Build}
 use Rattle.tp_store.specs.Chain.{contents_of}
-use Rattle.tp_store.proofs.CopyLemmas.{newest_first, is_some_not, zero_unless, nothing_left, only_one}
-use Rattle.tp_store.proofs.TaskLemmas.{IsCopying, copy_look, look_claimed, look_smaller, copy_build, copy_end, copied_shown, copied_last, copied_named, tasks_size}
+use Rattle.tp_store.proofs.Copies.Rows.{newest_first, is_some_not, zero_unless, nothing_left, only_one}
+use Rattle.tp_store.proofs.Copies.Tasks.{IsCopying, copy_look, look_claimed, look_smaller, copy_build, copy_end, copied_shown, copied_last, copied_named, tasks_size}
 use Rattle.tp_store.proofs.copy.copy.Goals as goal
 
 pub look_at-requires-clause-variable : goal.look_at-requires-clause-variable

@@ -1,6 +1,6 @@
 use Rattle.std.proofs.Common.{reverse}
 use Rattle.tp_store.specs.Chain.{IsChains, contents_of}
-use Rattle.tp_store.proofs.TaskLemmas.{IsCopying, tasks_size}
+use Rattle.tp_store.proofs.Copies.Tasks.{IsCopying, tasks_size}
 use Rattle.tp_store.proofs.copy.copy.Given as goal
 
 abbrev pub invariant-tasks : goal.invariant-tasks

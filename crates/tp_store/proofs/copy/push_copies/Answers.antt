@@ -1,4 +1,4 @@
-use Rattle.tp_store.proofs.CopyLemmas.{copies_pushed}
+use Rattle.tp_store.proofs.Copies.Rows.{copies_pushed}
 use Rattle.tp_store.proofs.copy.push_copies.Goals as goal
 
 pub loop-k-preserved : goal.loop-k-preserved

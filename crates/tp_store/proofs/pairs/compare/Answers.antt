@@ -1,4 +1,4 @@
-use Rattle.tp_store.proofs.WorkLemmas.{step_by_cell}
+use Rattle.tp_store.proofs.Unifier.Work.{step_by_cell}
 use Rattle.tp_store.proofs.pairs.compare.Goals as goal
 
 pub returns-in-Var : goal.returns-in-Var

@@ -1,6 +1,6 @@
 use Rattle.std.proofs.Common.{refl, ap, arith}
 use Rattle.tp_terms.specs.declared.cells.Cell.TheVariants.{Comp}
-use Rattle.tp_store.proofs.WorkLemmas.{bind_right, clash_names, clash_counts, same_compounds}
+use Rattle.tp_store.proofs.Unifier.Work.{bind_right, clash_names, clash_counts, same_compounds}
 use Rattle.tp_store.proofs.pairs.compare_compound.Goals as goal
 use Rattle.tp_store.proofs.pairs.compare_compound.Goals.{then-name-second-via-then-name-second, then-name-second-via-else-name-second+then-args-count}
 

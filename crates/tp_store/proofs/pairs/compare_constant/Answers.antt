@@ -1,5 +1,5 @@
 use Rattle.std.proofs.Common.{sym, ◌∙◌}
-use Rattle.tp_store.proofs.WorkLemmas.{bind_right, same_constants, clash_constants, constant_older}
+use Rattle.tp_store.proofs.Unifier.Work.{bind_right, same_constants, clash_constants, constant_older}
 use Rattle.tp_store.proofs.pairs.compare_constant.Goals as goal
 
 pub returns-in-Var : goal.returns-in-Var

@@ -1,7 +1,7 @@
 use Rattle.std.proofs.Common.{◌≡◌, ◌+◌, ap, sym, ◌∙◌, refl, arith}
 use Rattle.tp_terms.specs.declared.cells.Cell.TheVariants.{Var}
 use Rattle.tp_store.specs.Chain.{rank}
-use Rattle.tp_store.proofs.WorkLemmas.{bind_left, bind_right, same_cells, no_variable}
+use Rattle.tp_store.proofs.Unifier.Work.{bind_left, bind_right, same_cells, no_variable}
 use Rattle.tp_store.proofs.pairs.compare_variable.Goals as goal
 
 pub returns-then-number-second : goal.returns-then-number-second

@@ -1,7 +1,7 @@
 use Rattle.std.proofs.Common.{subst}
 use Rattle.tp_store.specs.Chain.{contents_of}
 use Rattle.tp_store.specs.Work.{CellStep, Becomes}
-use Rattle.tp_store.proofs.StepLemmas.{top_places, becomes_smaller, becomes_places, becomes_same, step_tells}
+use Rattle.tp_store.proofs.Unifier.Steps.{top_places, becomes_smaller, becomes_places, becomes_same, step_tells}
 use Rattle.tp_store.proofs.pairs.next_binding.Goals as goal
 
 pub end-requires-clause-place : goal.end-requires-clause-place

@@ -3,7 +3,7 @@ use Rattle.tp_terms.specs.Term.{Name, occurs}
 use Rattle.tp_store.specs.Contents.{seen_cell}
 use Rattle.tp_store.specs.Chain.{contents_of}
 use Rattle.tp_store.specs.Work.{VisitStep, Visits}
-use Rattle.tp_store.proofs.StepLemmas.{top_place, visits_found, visits_same, visits_places, visits_smaller}
+use Rattle.tp_store.proofs.Unifier.Steps.{top_place, visits_found, visits_same, visits_places, visits_smaller}
 use Rattle.tp_store.proofs.pairs.occurs_at.Goals as goal
 
 pub end-requires-clause-place : goal.end-requires-clause-place

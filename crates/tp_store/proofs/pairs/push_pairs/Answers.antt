@@ -1,4 +1,4 @@
-use Rattle.tp_store.proofs.WorkLemmas.{pairs_pushed}
+use Rattle.tp_store.proofs.Unifier.Work.{pairs_pushed}
 use Rattle.tp_store.proofs.pairs.push_pairs.Goals as goal
 
 pub loop-k-preserved : goal.loop-k-preserved

@@ -1,4 +1,4 @@
-use Rattle.tp_store.proofs.WorkLemmas.{places_pushed}
+use Rattle.tp_store.proofs.Unifier.Work.{places_pushed}
 use Rattle.tp_store.proofs.pairs.push_places.Goals as goal
 
 pub loop-k-preserved : goal.loop-k-preserved

@@ -1,4 +1,4 @@
-use Rattle.tp_store.proofs.WorkLemmas.{visit_args, visit_variable}
+use Rattle.tp_store.proofs.Unifier.Work.{visit_args, visit_variable}
 use Rattle.tp_store.proofs.pairs.visit.Goals as goal
 
 pub returns-in-Var : goal.returns-in-Var

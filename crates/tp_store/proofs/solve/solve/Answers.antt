@@ -2,7 +2,7 @@ use Rattle.std.proofs.Common.{◌<◌, [], ◌∷◌, ◌++◌, sym, ap, subst, 
 use Rattle.tp_store.specs.Contents.{Names}
 use Rattle.tp_store.specs.Chain.{contents_of}
 use Rattle.tp_store.specs.Work.{WorkStep, Reduces, unbound_count}
-use Rattle.tp_store.proofs.SolveLemmas.{IsSolving, solving_start, solving_bind, solving_ends, never, may_add, unbound_count-bind}
+use Rattle.tp_store.proofs.Unifier.Solutions.{IsSolving, solving_start, solving_bind, solving_ends, never, may_add, unbound_count-bind}
 use Rattle.tp_store.proofs.solve.solve.Goals as goal
 
 pub bindings-init : goal.bindings-init

@@ -1,6 +1,6 @@
 use Rattle.tp_store.specs.Chain.{IsChains, contents_of}
 use Rattle.tp_store.specs.Work.{unbound_count}
-use Rattle.tp_store.proofs.SolveLemmas.{IsSolving}
+use Rattle.tp_store.proofs.Unifier.Solutions.{IsSolving}
 use Rattle.tp_store.proofs.solve.solve.Given as goal
 
 abbrev pub invariant-bindings : goal.invariant-bindings

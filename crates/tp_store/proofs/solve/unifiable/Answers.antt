@@ -1,6 +1,6 @@
 use Rattle.std.proofs.Common.{arith}
 use Rattle.tp_store.specs.Chain.{contents_of}
-use Rattle.tp_store.proofs.UnifierLemmas.{found_some, undone_same}
+use Rattle.tp_store.proofs.Unifier.General.{found_some, undone_same}
 use Rattle.tp_store.proofs.solve.unifiable.Goals as goal
 
 pub returns-clause-found : goal.returns-clause-found

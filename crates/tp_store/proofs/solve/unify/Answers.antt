@@ -1,6 +1,6 @@
 use Rattle.std.proofs.Common.{Ok, ap, arith}
 use Rattle.tp_store.specs.Chain.{contents_of}
-use Rattle.tp_store.proofs.UnifierLemmas.{found_true, found_false, undone_same, AddsPairs-same}
+use Rattle.tp_store.proofs.Unifier.General.{found_true, found_false, undone_same, AddsPairs-same}
 use Rattle.tp_store.proofs.solve.unify.Goals as goal
 
 pub returns-in-Ok-true-clause-found : goal.returns-in-Ok-true-clause-found

@@ -4,7 +4,7 @@ use Rattle.tp_terms.proofs.ShownLemmas.{AreNamed-longer}
 use Rattle.tp_parse.specs.Ops.{table_of}
 use Rattle.tp_parse.specs.Texts.{goal_of}
 use Rattle.tp_clauses.specs.Model.{cause_of}
-use Rattle.tp_engine.proofs.GoalLemmas.{goal-fits, read-fits}
+use Rattle.tp_engine.proofs.GoalsRead.{goal-fits, read-fits}
 use Rattle.tp_top.proofs.RunAnswers.{if_ok, goal_answered, goal_stopped, told_stop, same_goal_line}
 use Rattle.tp_top.proofs.answer.answer_goal.Goals as goal
 

@@ -10,7 +10,7 @@ returns-in-Ok c =
     if_ok c.search.result _ _
     (λ reply told.
     read_answered c.args.atoms c.args.base.now c.args.goal.now c.in-Ok.engine _ c.in-Ok.ensures.started c.in-Ok.ensures.body
-    (told ∙ ap (λ ops. report (table_of ops) c.in-Ok.engine.seen.named (outcome_of c.in-Ok.engine 1000000 1)) c.ops.ensures))
+    told)
     c.search.ensures
 
 pub returns-in-Err-Body : goal.returns-in-Err-Body

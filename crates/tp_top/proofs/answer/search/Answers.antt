@@ -14,6 +14,6 @@ returns-in-Ok c =
     if_ok c.report.result _ _
     (λ reply told.
     told
-    ∙ ap (λ (view : Snapshot). with_last text ended.steps (end_by (table_of c.args.ops.now) (counts_in ended) (end_of view ended.how))) c.view.ensures.view
-    ∙ searched_report (table_of c.args.ops.now) c.args.engine.seen.named (outcome_of c.args.engine 1000000 1) c.run_to_end.new.self ended _ text c.in-Ok.ensures.found c.new.ensures.bytes c.in-Ok.ensures.shown)
+    ∙ ap (λ (view : Snapshot). with_last text ended.steps (end_by (table_of view.ops) (counts_in ended) (end_of view ended.how))) c.view.ensures.view
+    ∙ searched_report c.args.engine (outcome_of c.args.engine 1000000 1) c.run_to_end.new.self ended _ c.run_to_end.new.answers c.in-Ok.ensures.found c.run_to_end.ensures.same c.new.ensures.bytes c.in-Ok.ensures.took)
     c.report.ensures

@@ -8,5 +8,5 @@ use Rattle.tp_top.proofs.report.end_of_search.Goals as goal
 
 pub returns-in-NoMore : goal.returns-in-NoMore
 returns-in-NoMore c =
-    c.no_more.ensures (table_of c.args.ops.now)
-    ∙ ap (λ (how : How). end_by (table_of c.args.ops.now) (counts_in c.args.ended.now) (end_of c.args.view.now how)) (sym c.in-NoMore.is)
+    c.no_more.ensures (table_of c.args.view.now.ops)
+    ∙ ap (λ (how : How). end_by (table_of c.args.view.now.ops) (counts_in c.args.ended.now) (end_of c.args.view.now how)) (sym c.in-NoMore.is)

@@ -1,6 +1,6 @@
 use Rattle.std.proofs.Common.{subst}
 use Rattle.tp_clauses.specs.Contents.{IsBase}
-use Rattle.tp_clauses.proofs.BaseLemmas.{predicate_at}
+use Rattle.tp_clauses.proofs.Loading.Whole.{predicate_at}
 use Rattle.tp_clauses.proofs.base.Base.clauses.Goals as goal
 
 pub returns-then-is_empty-clause-predicate : goal.returns-then-is_empty-clause-predicate

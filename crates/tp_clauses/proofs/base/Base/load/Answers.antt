@@ -1,7 +1,8 @@
 use Rattle.std.proofs.Common.{◌∙◌}
-use Rattle.tp_clauses.proofs.BaseLemmas.{base_told, fault_told, memory_told, model_bytes}
+use Rattle.tp_clauses.proofs.Loading.Whole.{base_told, bodies_told, clauses_fit, fault_told, memory_told, model_bytes}
 use Rattle.tp_clauses.specs.declared.parts.Parts.{Parts}
 use Rattle.tp_clauses.specs.declared.base.Base.{Base}
+use Rattle.tp_clauses.specs.Parts.{contents_of}
 use Rattle.tp_clauses.proofs.base.Base.load.Goals as goal
 
 pub returns-in-Ok-load_text-clause-model : goal.returns-in-Ok-load_text-clause-model
@@ -19,3 +20,11 @@ returns-in-Err-clause-model c = model_bytes c.args.text.now c.valid_up_to.result
 pub returns-in-Err-load_text-clause-memory : goal.returns-in-Err-load_text-clause-memory
 returns-in-Err-load_text-clause-memory c =
     memory_told Parts Base c.args.text.now c.in-Ok.text.now c.in-Err-load_text.fault c.in-Ok.ensures.cases.0 c.in-Ok.ensures.cases.1 c.in-Err-load_text.ensures.memory
+
+pub returns-in-Ok-load_text-clause-fit : goal.returns-in-Ok-load_text-clause-fit
+returns-in-Ok-load_text-clause-fit c names = clauses_fit names (contents_of c.in-Ok-load_text.parts) c.in-Ok-load_text.ensures.parts.base
+
+pub returns-in-Ok-load_text-clause-bodies : goal.returns-in-Ok-load_text-clause-bodies
+returns-in-Ok-load_text-clause-bodies c =
+    let told = base_told c.load_text.new.atoms c.args.text.now c.in-Ok.text.now c.in-Ok-load_text.parts c.in-Ok.ensures.cases.0 c.in-Ok.ensures.cases.1 c.in-Ok-load_text.ensures.model in
+    bodies_told c.load_text.new.atoms c.args.text.now (contents_of c.in-Ok-load_text.parts) told.0 told.1.0 told.1.1

@@ -1,7 +1,7 @@
 use Rattle.std.proofs.Common.{sym, ap, ◌∙◌, ◌++◌, ◌∷◌, [], is_some, cond, Some}
 use Rattle.std.specs.Map.{lookup}
 use Rattle.tp_clauses.specs.Indexed.{ids_in, same_key}
-use Rattle.tp_clauses.proofs.IndexLemmas.{found_ids, id_added}
+use Rattle.tp_clauses.proofs.Clauses.Places.{found_ids, id_added}
 use Rattle.tp_clauses.proofs.index.Index.add.Goals as goal
 
 pub returns-in_ok-push-in-Some : goal.returns-in_ok-push-in-Some

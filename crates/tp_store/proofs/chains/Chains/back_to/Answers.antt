@@ -2,7 +2,7 @@ use Rattle.std.proofs.Common.{refl, length, ap, sym, subst, ◌≤◌, arith}
 use Rattle.std.proofs.lemmas.List.{length-take}
 use Rattle.tp_store.specs.Contents.{cut_to_mark}
 use Rattle.tp_store.specs.Chain.{contents_of, IsTable}
-use Rattle.tp_store.proofs.KeptLemmas.{IsStore-cut, IsTable-cut, IsChains-of}
+use Rattle.tp_store.proofs.Substitution.Kept.{IsStore-cut, IsTable-cut, IsChains-of}
 use Rattle.tp_store.proofs.chains.Chains.back_to.Goals as goal
 
 pub returns-clause-chains : goal.returns-clause-chains

@@ -2,7 +2,7 @@ use Rattle.std.proofs.Common.{refl, length, [], ◌<◌, Some, arith}
 use Rattle.std.proofs.lemmas.List.{length-set}
 use Rattle.tp_store.specs.Contents.{with_pair}
 use Rattle.tp_store.specs.Chain.{contents_of}
-use Rattle.tp_store.proofs.KeptLemmas.{IsStore-pair, IsTable-pair, IsChains-of, reverse-push}
+use Rattle.tp_store.proofs.Substitution.Kept.{IsStore-pair, IsTable-pair, IsChains-of, reverse-push}
 use Rattle.tp_store.proofs.chains.Chains.bind.Goals as goal
 
 pub index_mut-requires : goal.index_mut-requires

@@ -3,7 +3,7 @@ use Rattle.std.specs.Prelude.{vec_len}
 use Rattle.tp_store.specs.declared.chains.Chains.{Chains}
 use Rattle.tp_store.specs.Contents.{with_vars}
 use Rattle.tp_store.specs.Chain.{contents_of}
-use Rattle.tp_store.proofs.KeptLemmas.{IsStore-vars, IsTable-vars, IsChains-of}
+use Rattle.tp_store.proofs.Substitution.Kept.{IsStore-vars, IsTable-vars, IsChains-of}
 use Rattle.tp_store.proofs.chains.Chains.claim.Goals as goal
 
 pub returns-clause-chains : goal.returns-clause-chains

@@ -1,7 +1,7 @@
 use Rattle.std.proofs.Common.{refl}
 use Rattle.tp_store.specs.Contents.{with_cell}
 use Rattle.tp_store.specs.Chain.{contents_of}
-use Rattle.tp_store.proofs.KeptLemmas.{IsStore-cell, IsChains-of}
+use Rattle.tp_store.proofs.Substitution.Kept.{IsStore-cell, IsChains-of}
 use Rattle.tp_store.proofs.chains.Chains.place.Goals as goal
 
 pub returns-clause-chains : goal.returns-clause-chains

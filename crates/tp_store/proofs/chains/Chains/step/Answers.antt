@@ -1,7 +1,7 @@
 use Rattle.std.proofs.Common.{length, subst}
 use Rattle.tp_store.specs.Contents.{IsNumbered}
 use Rattle.tp_store.specs.Chain.{contents_of}
-use Rattle.tp_store.proofs.ChainLemmas.{step_leads}
+use Rattle.tp_store.proofs.Substitution.Chained.{step_leads}
 use Rattle.tp_store.proofs.chains.Chains.step.Goals as goal
 
 pub returns-in-Var-clause-on : goal.returns-in-Var-clause-on

@@ -2,7 +2,7 @@ use Rattle.std.proofs.Common.{◌≡◌, ◌≤◌, ◌+◌, ◌∷◌, ◌++◌
 use Rattle.std.specs.Option.{option_to_list}
 use Rattle.std.proofs.lemmas.List.{take-append-le, length-set}
 use Rattle.tp_store.specs.declared.chains.Chains.{Chains}
-use Rattle.tp_store.proofs.KeptLemmas.{IsChains-undo, newest_claimed}
+use Rattle.tp_store.proofs.Substitution.Kept.{IsChains-undo, newest_claimed}
 use Rattle.tp_store.proofs.chains.Chains.undo_to.Goals as goal
 
 pub index_mut-requires : goal.index_mut-requires

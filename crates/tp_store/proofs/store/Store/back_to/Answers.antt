@@ -1,7 +1,7 @@
 use Rattle.std.proofs.Common.{subst, sym}
 use Rattle.tp_store.specs.Contents.{Contents, Keeps, CanGoBack}
 use Rattle.tp_store.specs.Chain.{contents_of}
-use Rattle.tp_store.proofs.KeptLemmas.{Keeps-cut}
+use Rattle.tp_store.proofs.Substitution.Kept.{Keeps-cut}
 use Rattle.tp_store.proofs.store.Store.back_to.Goals as goal
 
 pub returns-clause-keeps : goal.returns-clause-keeps

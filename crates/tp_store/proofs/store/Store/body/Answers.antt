@@ -3,7 +3,7 @@ use Rattle.tp_terms.specs.declared.symbols.TheConstants.{CALL}
 use Rattle.tp_terms.specs.Shown.{AreNamed}
 use Rattle.tp_store.specs.Contents.{Contents, Keeps}
 use Rattle.tp_store.specs.Chain.{contents_of}
-use Rattle.tp_store.proofs.KeptLemmas.{Keeps-adds}
+use Rattle.tp_store.proofs.Substitution.Kept.{Keeps-adds}
 use Rattle.tp_store.proofs.store.Store.body.Goals as goal
 
 pub returns-clause-keeps : goal.returns-clause-keeps

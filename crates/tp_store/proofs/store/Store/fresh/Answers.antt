@@ -1,7 +1,7 @@
 use Rattle.std.proofs.Common.{OnOk, refl, subst}
 use Rattle.tp_store.specs.Contents.{Contents, Keeps, with_vars}
 use Rattle.tp_store.specs.Chain.{contents_of}
-use Rattle.tp_store.proofs.KeptLemmas.{keeps_ok}
+use Rattle.tp_store.proofs.Substitution.Kept.{keeps_ok}
 use Rattle.tp_store.proofs.store.Store.fresh.Goals as goal
 
 pub returns-clause-keeps : goal.returns-clause-keeps

@@ -2,7 +2,7 @@ use Rattle.std.proofs.Common.{ℕ, OnOk, subst}
 use Rattle.tp_terms.specs.Shown.{AreNamed}
 use Rattle.tp_store.specs.Contents.{Contents, Keeps}
 use Rattle.tp_store.specs.Chain.{contents_of}
-use Rattle.tp_store.proofs.KeptLemmas.{Keeps-adds}
+use Rattle.tp_store.proofs.Substitution.Kept.{Keeps-adds}
 use Rattle.tp_store.proofs.store.Store.instance.Goals as goal
 
 pub returns-clause-named : goal.returns-clause-named

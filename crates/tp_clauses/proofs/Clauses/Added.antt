@@ -25,12 +25,12 @@ use Rattle.tp_meaning.specs.Subst.{apply}
 use Rattle.tp_meaning.proofs.Applied.{apply-empty}
 use Rattle.tp_terms.specs.Names.{IsTable}
 use Rattle.tp_terms.specs.declared.symbols.TheConstants.{CALL}
-use Rattle.tp_clauses.proofs.KindLemmas.{call-within}
+use Rattle.tp_clauses.proofs.Taking.StartNames.{call-within}
 use Rattle.tp_clauses.specs.declared.base.ClauseId.{ClauseId}
 use Rattle.tp_clauses.specs.declared.base.ClauseView.{ClauseView}
 use Rattle.tp_clauses.specs.declared.kind.Key.{Key}
 use Rattle.tp_clauses.specs.declared.parts.Parts.{Parts}
-use Rattle.tp_clauses.proofs.MovedLemmas.{shows-moved}
+use Rattle.tp_clauses.proofs.Clauses.Moved.{shows-moved}
 
 -- ---- cells
 

@@ -14,10 +14,10 @@ use Rattle.tp_meaning.proofs.Terms.{replaced-replaced, replaced-same}
 use Rattle.tp_store.specs.Contents.{Contents, chained, subst_of, seen, seen_cell, Adds, IsStore, IsUnbound, AddsPairs, with_pair}
 use Rattle.tp_store.specs.Work.{Extends, ArePairsIn, Each, MayBind, Reduces, IsGeneral, unbound_count}
 use Rattle.tp_store.specs.Chain.{rank, IsTable}
-use Rattle.tp_store.proofs.ChainLemmas.{unnamed, IsSubst-chained}
+use Rattle.tp_store.proofs.Substitution.Chained.{unnamed, IsSubst-chained}
 use Rattle.tp_store.proofs.FitsLemmas.{no_cycle}
-use Rattle.tp_store.proofs.WorkLemmas.{end_shows}
-use Rattle.tp_store.proofs.StepLemmas.{over_of}
+use Rattle.tp_store.proofs.Unifier.Work.{end_shows}
+use Rattle.tp_store.proofs.Unifier.Steps.{over_of}
 
 -- a solution of v and t sees no difference
 for_one_same : (f : ℕ → Term) (v : ℕ) (t y : Term) → f v ≡ replaced f t → replaced f (replaced (for_one v t) y) ≡ replaced f y

@@ -118,10 +118,3 @@ leads_on c v next s e = record {
 pub step_leads : (c : Contents) (bound : List (Option Ref)) (x : Cell) (v : ℕ) (o : Option Ref) → IsStore c → IsTable bound c.pairs → x ≡ cell.Var v → v < length bound → o ≡ get_or bound v o → IfSome o (λ next. LeadsOn c x next)
 step_leads c bound x v None s t is lt e = tt
 step_leads c bound x v (Some next) s t is lt e = subst (λ y. LeadsOn c y next) (sym is) (leads_on c v next s (table_at bound c.pairs v (Some next) t lt e))
-
--- the number of a variable that stands was claimed
-pub numbered_at : (vars : ℕ) (cells : List Cell) (at : ℕ) (x : Cell) → AreNumbered vars cells → slice_get cells at ≡ Some x → IsNumbered vars x
-numbered_at vars cells at (cell.Var v) n e = n at v e
-numbered_at vars cells at (cell.Int value) n e = tt
-numbered_at vars cells at (cell.Atom name) n e = tt
-numbered_at vars cells at (cell.Comp name first count) n e = tt

@@ -24,8 +24,8 @@ use Rattle.tp_clauses.specs.Kinds.{is_atom, read_as, unary_read, binary_read, he
 use Rattle.tp_clauses.specs.Bodies.{TellsBody}
 use Rattle.tp_clauses.specs.Parts.{IsParts, AddsClause, Longer, contents_of}
 use Rattle.tp_clauses.specs.Moved.{moved, moved_view}
-use Rattle.tp_clauses.proofs.MovedLemmas.{shows-moved, AreNamed-moved}
-use Rattle.tp_clauses.proofs.PartsLemmas.{fits_moved, clause_moved, key_behind, longer_base}
+use Rattle.tp_clauses.proofs.Clauses.Moved.{shows-moved, AreNamed-moved}
+use Rattle.tp_clauses.proofs.Clauses.Added.{fits_moved, clause_moved, key_behind, longer_base}
 use Rattle.std.proofs.lemmas.List.{length-map}
 use Rattle.tp_terms.proofs.ShownLemmas.{AreNamed-append}
 use Rattle.tp_clauses.specs.Told.{outcome, Taken, TellsTerm, TellsDirective}
@@ -38,9 +38,9 @@ use Rattle.tp_clauses.specs.declared.fault.Cause.{Cause}
 use Rattle.tp_clauses.specs.declared.fault.Cause.TheVariants as cause
 use Rattle.tp_clauses.specs.declared.directive.TermFault.{TermFault}
 use Rattle.tp_clauses.specs.declared.directive.TermFault.TheVariants.{Refused, NoMemory}
-use Rattle.tp_clauses.proofs.KindLemmas.{is_atom-named, neck, query, grammar}
-use Rattle.tp_clauses.proofs.OccursLemmas.{occurs-names, occurs-body}
-use Rattle.tp_clauses.proofs.DirectiveLemmas.{cell_at}
+use Rattle.tp_clauses.proofs.Taking.StartNames.{is_atom-named, neck, query, grammar}
+use Rattle.tp_clauses.proofs.Taking.Variables.{occurs-names, occurs-body}
+use Rattle.tp_clauses.proofs.Taking.Directives.{cell_at}
 
 never : (n k : ℕ) → k < 3 → nat_eq (suc (suc (suc n))) k ≡ false
 never n k l = go (nat_eq (suc (suc (suc n))) k) refl

@@ -16,9 +16,9 @@ use Rattle.tp_terms.specs.Shown.{shows}
 use Rattle.tp_store.specs.declared.chains.Chains.{Chains}
 use Rattle.tp_store.specs.Chain.{IsChains, contents_of}
 use Rattle.tp_store.specs.Contents.{Contents, AddsPairs, Names, subst_of}
-use Rattle.tp_store.proofs.ChainLemmas.{IsSubst-chained}
+use Rattle.tp_store.proofs.Substitution.Chained.{IsSubst-chained}
 use Rattle.tp_store.specs.Work.{IsGeneral, NoneSolves}
-use Rattle.tp_store.proofs.StepLemmas.{over_of}
+use Rattle.tp_store.proofs.Unifier.Steps.{over_of}
 
 -- two most general solutions are the same
 module _ (s : Subst) (a b : Term) (u u2 : Subst) (is : IsSubst u) (g : IsGeneral s a b u) (m : Mgu s a b u2) where

@@ -30,8 +30,8 @@ use Rattle.tp_clauses.specs.declared.parts.Parts.{Parts}
 use Rattle.tp_clauses.specs.declared.fault.Cause.{Cause}
 use Rattle.tp_clauses.specs.declared.fault.LoadFault.{LoadFault}
 use Rattle.tp_clauses.specs.declared.fault.LoadFault.TheVariants.{Refused, NoMemory}
-use Rattle.tp_clauses.proofs.OccursLemmas.{occurs-names}
-use Rattle.tp_clauses.proofs.LoadLemmas.{after-none, clause-refused}
+use Rattle.tp_clauses.proofs.Taking.Variables.{occurs-names}
+use Rattle.tp_clauses.proofs.Loading.Text.{after-none, clause-refused}
 
 -- ---- numbers of variables
 

@@ -178,7 +178,3 @@ begun_memory text NoMemory told e = record { number = 1; ops = start_table; at =
 
 pub loading_memory : (names : List Name) (text : List ℕ) (at before : ℕ) (p : Parts) → IsLoading names text at before p → before < most_terms → is_ok (next text at) ≡ true → AsksMemory text
 loading_memory names text at before p h l ahead = record { number = before + 1; ops = table_of p.ops; at = at; comes = h.comes; few = omega arith; token = ahead }
-
-pub ended_memory : (A : Type 0) (number : ℕ) (text : List ℕ) (at : ℕ) (fault : LoadFault) → TellsEnd {A = A} number (Err fault) (next text at) → ◌≡◌ {A = Result Parts LoadFault} (Err fault) (Err NoMemory) → AsksMemory text
-ended_memory A number text at (Refused clause byte c) told e = absurd (cc)
-ended_memory A number text at NoMemory told e = absurd told

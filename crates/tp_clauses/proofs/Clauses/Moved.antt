@@ -1,5 +1,5 @@
 -- Cells that are moved behind others show what they showed.
-use Rattle.std.proofs.Common.{◌≡◌, ℕ, zero, suc, ◌+◌, ◌-◌, ◌<◌, ◌≤◌, List, [], ◌∷◌, ◌++◌, length, map, take, Some, slice_get, get_or, refl, sym, ap, ◌∙◌, arith, append_assoc, length-append}
+use Rattle.std.proofs.Common.{◌≡◌, ℕ, zero, suc, ◌+◌, ◌-◌, ◌<◌, List, [], ◌∷◌, ◌++◌, length, map, take, Some, slice_get, get_or, refl, sym, ap, ◌∙◌, arith, append_assoc, length-append}
 use Rattle.std.proofs.lemmas.List.{take_more, map-append, length-map, length-take-le}
 use Rattle.std.proofs.lemmas.Option.{slice_get_within, get_or_from_slice_get}
 use Rattle.tp_terms.specs.declared.cells.Cell.{Cell}
@@ -76,7 +76,3 @@ append_turn old more now new at by c so_far here far pushed =
     pushed ∙ ap (λ l. l ++ moved by c ∷ []) so_far ∙ append_assoc old (map (moved (length old)) (take at more)) (moved by c ∷ [])
     ∙ ap (λ n. old ++ (map (moved (length old)) (take at more) ++ moved n c ∷ [])) same
     ∙ ap (λ l. old ++ l) (sym (ap (map (moved (length old))) next ∙ map-append (moved (length old)) (take at more) (c ∷ [])))
-
--- how many there are so far
-pub append_length : (old more now : List Cell) (at : ℕ) → at ≤ length more → now ≡ old ++ map (moved (length old)) (take at more) → length now ≡ length old + at
-append_length old more now at l e = ap length e ∙ length-append old (map (moved (length old)) (take at more)) ∙ ap (λ n. length old + n) (length-map (take at more) (moved (length old)) ∙ length-take-le at more l)

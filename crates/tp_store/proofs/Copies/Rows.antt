@@ -83,9 +83,6 @@ row_turn old now new R total k all mid x h e ok value =
       vars = vars ∙ h.vars;
     }
 
-pub row_adds : (old now : Chains) (R : List Cell) (total k : ℕ) (made : List Cell) → IsRow old R total k now made → AddsCells (contents_of old) (contents_of now)
-row_adds old now R total k made h = record { more = take k R; cells = h.cells; pairs = h.pairs; vars = h.vars }
-
 pub is_some_not : {X : Type 0} (o : Option X) → IsSome o → ((x : X) → o ≡ Some x → ⊥) → ⊥
 is_some_not None some h = absurd (cc)
 is_some_not (Some x) some h = h x refl

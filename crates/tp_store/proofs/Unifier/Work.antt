@@ -20,7 +20,7 @@ use Rattle.tp_store.specs.declared.pairs.Pair.TheVariants.{Same, Clash, Bind}
 use Rattle.tp_store.specs.Contents.{Contents, Names, IsStore, subst_of, seen, seen_cell}
 use Rattle.tp_store.specs.Chain.{IsEnd, rank}
 use Rattle.tp_store.specs.Work.{places_from, pairs_from, occurs_each, places_size, pairs_size, AreIn, ArePairsIn, Each, IsConstant, constants_eq, Visits, VisitStep, CellStep}
-use Rattle.tp_store.proofs.ChainLemmas.{unnamed}
+use Rattle.tp_store.proofs.Substitution.Chained.{unnamed}
 
 -- ---- adjacent places
 

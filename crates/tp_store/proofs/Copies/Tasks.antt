@@ -16,7 +16,7 @@ use Rattle.tp_store.specs.declared.copy.Task.{Task}
 use Rattle.tp_store.specs.declared.copy.Task.TheVariants.{Copy, Build}
 use Rattle.tp_store.specs.Contents.{Contents, AddsCells, IsNumbered, with_cell}
 use Rattle.tp_store.specs.Copy.{IsClaimed, IsLast, copies, made_by, AreTasks, AreReady, looked_at}
-use Rattle.tp_store.proofs.CopyLemmas.{AreReady-later}
+use Rattle.tp_store.proofs.Copies.Rows.{AreReady-later}
 
 -- ---- rows of arguments
 
@@ -151,16 +151,6 @@ pub record IsCopying (from : List Cell) (base root : ℕ) (old now : Contents) (
   pub few : length now.cells + (length made + cells_left from tasks) ≡ length old.cells + term_size (shows [] from root)
   pub makes : (names : List Name) → made_by names from base tasks (map (shown_from names now.cells) made) ≡ renamed base (shows names from root) ∷ []
   pub named : (n : ℕ) → AreNamed n from → AreNamed n old.cells → AreNamed n now.cells × AreNamed n made × AreTasksNamed n tasks
-
-pub copy_start : (from : List Cell) (base : ℕ) (root : Ref) (c : Contents) → root.at < length from → IsClaimed from root.at base c.vars → IsCopying from base root.at c c (Copy root ∷ []) []
-copy_start from base root c lt claimed = record {
-  adds = record { more = []; cells = sym (append-nil c.cells); pairs = refl; vars = refl };
-  ready = tt;
-  can = (lt, claimed, refl);
-  few = omega arith;
-  makes = λ names. refl;
-  named = λ n f h. (h, tt, tt);
-}
 
 module _ (from : List Cell) (base root : ℕ) (old now : Contents) (at : Ref) (tasks : List Task) (made : List Cell) (h : IsCopying from base root old now (Copy at ∷ tasks) made) where
   -- one more cell is made

@@ -27,7 +27,7 @@ use Rattle.tp_store.specs.Contents.{Contents, AddsCells, IsStore, IsUnbound, cha
 use Rattle.tp_store.specs.Chain.{IsEnd}
 use Rattle.tp_store.specs.Work.{AreIn}
 use Rattle.tp_store.specs.Bodies.{joins, compound_form, form_of, pair_of, IsPair, asks_memory, onward, bodies_by, seen_each, AreJobs, AreOwn, AsksMemory, KeepsOwn, jobs_size, Goes, Looked}
-use Rattle.tp_store.proofs.KeptLemmas.{seen-append, subst_of-append}
+use Rattle.tp_store.proofs.Substitution.Kept.{seen-append, subst_of-append}
 use Rattle.tp_store.proofs.StoreLemmas.{value-unbound}
 
 -- ---- cells that are added
@@ -231,9 +231,6 @@ module _ (c : Contents) (s : IsStore c) (at : Ref) (jobs : List Job) (made : Lis
   place_seen : (names : List Name) → seen names c e.place.at ≡ seen_cell names c e.cell
   place_seen names = ap (apply (subst_of names c)) (shows-cell names c.cells e.place.at e.cell end.cell end.before)
 
-  pub looked_integer : form_of e.cell ≡ Integer → (c' : Contents) (jobs' : List Job) (made' : List Ref) → Looked false c at jobs made c' jobs' made'
-  looked_integer is c' jobs' made' = λ names t h. ap body (sym (same names)) ∙ body-integer names c e.cell is
-
   pub looked_plain : form_of e.cell ≡ Plain → Looked true c at jobs made c jobs (at ∷ made)
   looked_plain is = one_more c (adds_none c) at can.0
       (λ names t h. ap body (sym (same names)) ∙ body-plain names c t e.cell (named_cell names h) is ∙ ap Some (same names)) (λ names t h o. (refl, refl)) (λ n k h. h)
@@ -311,15 +308,14 @@ module _ (c c' : Contents) (s : IsStore c) (a : AddsCells c c') (at : Ref) (name
         let first : x ≡ left = cc in
         let second : y ≡ right = cc in
         let q = own first second in
-        let rest : o.0 ≡ made = cc in
-        (q.0, subst (λ (c2 : Contents). AreOwn names c2 root jobs (p ∷ made)) (sym q.0)
-        (subst (λ (r : Ref). AreOwn names c root jobs (r ∷ made)) (sym q.1) (subst (λ (rs : List Ref). AreOwn names c root jobs (at ∷ rs)) rest o.2)));
+        let rest : o.0 ≡ made = cc in (
+          q.0,
+          subst (λ (c2 : Contents). AreOwn names c2 root jobs (p ∷ made)) (sym q.0)
+              (subst (λ (r : Ref). AreOwn names c root jobs (r ∷ made)) (sym q.1) (subst (λ (rs : List Ref). AreOwn names c root jobs (at ∷ rs)) rest o.2)),
+        );
   }
 
 -- ---- jobs one after another
-
-pub goes_start : (c : Contents) (root : Ref) → root.at < length c.cells → Goes c (Convert root ∷ []) [] c (Convert root ∷ []) []
-goes_start c root lt = record { adds = adds_none c; can = (lt, refl); within = tt; named = λ n k h j. (h, j); same = λ names t h j. refl; own = λ names t h r o. (refl, o) }
 
 pub goes_on : (c d e : Contents) (js ks ls : List Job) (ms ns os : List Ref) → Goes c js ms d ks ns → Goes d ks ns e ls os → Goes c js ms e ls os
 goes_on c d e js ks ls ms ns os g h = record {
@@ -443,10 +439,6 @@ first_made xs x y only e = e ∙ ap (λ rs. get_or rs 0 y) (sym (reverse-reverse
 pub plain_own : (c : Contents) (at : ℕ) (e : End) → IsEnd c e → ((names : List Name) → seen_cell names c e.cell ≡ seen names c at) → form_of e.cell ≡ Plain →
     (names : List Name) → IsTable names → AreNamed (length names) c.cells → body (seen names c at) ≡ Some (seen names c at)
 plain_own c at e end same is names t h = ap body (sym (same names)) ∙ body-plain names c t e.cell (AreNamed-cell (length names) c.cells e.place.at e.cell h end.cell) is ∙ ap Some (same names)
-
--- an integer has no body, and so isn't its own
-pub integer_none : (c : Contents) (at : ℕ) (e : End) → ((names : List Name) → seen_cell names c e.cell ≡ seen names c at) → form_of e.cell ≡ Integer → (names : List Name) → body (seen names c at) ≡ None
-integer_none c at e same is names = ap body (sym (same names)) ∙ body-integer names c e.cell is
 
 pub none_own : (c now : Contents) (goal : Ref) → ((names : List Name) → IsTable names → AreNamed (length names) c.cells → body (seen names c goal.at) ≡ None) → KeepsOwn c now goal None
 none_own c now goal none = λ names t h o. absurd (let e = none names t h in cc)

@@ -11,7 +11,7 @@ use Rattle.tp_store.specs.declared.pairs.Pair.{Pair}
 use Rattle.tp_store.specs.declared.pairs.Pair.TheVariants.{Same, Clash, Bind}
 use Rattle.tp_store.specs.Contents.{Contents, Names, subst_of, seen, seen_cell}
 use Rattle.tp_store.specs.Work.{Extends, AreIn, ArePairsIn, Each, Equal, Becomes, AsksFor, Reduces, Visits, CellStep, WorkStep, pairs_size, places_size, occurs_each}
-use Rattle.tp_store.proofs.WorkLemmas.{pairs_size-append, places_size-append, AreIn-append, AreIn-front, ArePairsIn-append, ArePairsIn-front, Each-append, occurs_each-append}
+use Rattle.tp_store.proofs.Unifier.Work.{pairs_size-append, places_size-append, AreIn-append, AreIn-front, ArePairsIn-append, ArePairsIn-front, Each-append, occurs_each-append}
 
 pub over_of : (s : Subst) (f : ℕ → Term) → Extends s f → Over f s
 over_of s f h = record { at = h.at }

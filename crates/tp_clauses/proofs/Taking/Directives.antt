@@ -23,7 +23,7 @@ use Rattle.tp_clauses.specs.Told.{TellsDirective, added_or_none, each_added, lon
 use Rattle.tp_clauses.specs.declared.directive.Operators.{Operators}
 use Rattle.tp_clauses.specs.declared.directive.ListPart.{ListPart}
 use Rattle.tp_clauses.specs.declared.directive.ListPart.TheVariants as part
-use Rattle.tp_clauses.proofs.KindLemmas.{is_atom-named, op, list_cell, empty_list}
+use Rattle.tp_clauses.proofs.Taking.StartNames.{is_atom-named, op, list_cell, empty_list}
 
 -- there is a cell at each place
 pub cell_at : (cells : List Cell) (at : ℕ) → at < length cells → (c : Cell) × (slice_get cells at ≡ Some c)

@@ -7,8 +7,8 @@ use Rattle.std.proofs.lemmas.Str.{IsUtf8-from_is_utf8, is_utf8-from_IsUtf8}
 use Rattle.tp_parse.specs.Ops.{table_of}
 use Rattle.tp_clauses.specs.Parts.{contents_of}
 use Rattle.tp_clauses.specs.Told.{Holds, TellsParts}
-use Rattle.tp_clauses.proofs.LoadLemmas.{fault_same}
-use Rattle.tp_clauses.specs.Loaded.{AsksMemory, Has, Tells}
+use Rattle.tp_clauses.proofs.Loading.Text.{fault_same}
+use Rattle.tp_clauses.specs.Loaded.{AsksMemory, HasBody, Has, Tells}
 use Rattle.tp_clauses.specs.declared.parts.Parts.{Parts}
 use Rattle.tp_clauses.specs.declared.fault.LoadFault.{LoadFault}
 use Rattle.tp_clauses.specs.declared.fault.LoadFault.TheVariants.{Refused, NoMemory}
@@ -24,7 +24,7 @@ use Rattle.tp_terms.proofs.ShownLemmas.{shows-cell, AreNamed-cell}
 use Rattle.tp_terms.proofs.NameLemmas.{names_eq-places}
 use Rattle.tp_meaning.specs.Body.{body}
 use Rattle.tp_meaning.proofs.Bodies.{body-own}
-use Rattle.tp_meaning.specs.Clauses.{Clause, predicate}
+use Rattle.tp_meaning.specs.Clauses.{Base, Clause, predicate}
 use Rattle.tp_meaning.specs.Valid.{Below, AllBelow, ClauseFits}
 use Rattle.tp_parse.specs.Table.{Table, start_table}
 use Rattle.tp_parse.specs.Texts.{Found, clause_of as read_clause_of}
@@ -41,8 +41,8 @@ use Rattle.tp_clauses.specs.Contents.{Contents, IsBase, ViewFits, IsHead, AreBel
 use Rattle.tp_clauses.specs.declared.base.ClauseId.{ClauseId}
 use Rattle.tp_clauses.specs.declared.base.ClauseView.{ClauseView}
 use Rattle.tp_clauses.specs.declared.fault.Cause.{Cause}
-use Rattle.tp_clauses.proofs.OccursLemmas.{occurs-names}
-use Rattle.tp_clauses.proofs.DirectiveLemmas.{cell_at}
+use Rattle.tp_clauses.proofs.Taking.Variables.{occurs-names}
+use Rattle.tp_clauses.proofs.Taking.Directives.{cell_at}
 
 -- ---- places
 
@@ -138,10 +138,6 @@ pub clauses_fit : (names : List Name) (c : Contents) → IsBase c → AllByRecur
 clauses_fit names c b = views_fit names c.cells c.clauses b.clauses
 
 -- ---- every body is a body
-
--- a clause's body is its own body
-abbrev pub HasBody : Clause → Type 0
-HasBody c = IfSome c.body (λ b. body b ≡ Some b)
 
 abbrev AreBodied : Result Model Refusal → Type 0
 AreBodied (Ok m) = AllByRecursion HasBody m.clauses
@@ -252,3 +248,7 @@ fault_told names bytes text NoMemory e u h = tt
 -- want of memory for a text that is UTF-8
 pub memory_told : (A B : Type 0) (bytes text : List ℕ) (fault : LoadFault) → text ≡ bytes → IsUtf8 bytes → (◌≡◌ {A = Result A LoadFault} (Err fault) (Err NoMemory) → AsksMemory text) → ◌≡◌ {A = Result B LoadFault} (Err fault) (Err NoMemory) → (is_utf8 bytes ≡ true) × AsksMemory bytes
 memory_told A B bytes text fault e u asks w = (is_utf8-from_IsUtf8 bytes u, subst AsksMemory e (asks (fault_same B A fault NoMemory w)))
+
+-- the same of the clauses of a base that has a model
+pub bodies_told : (names : List Name) (text : List ℕ) (c : Contents) → (m : Model) → model text ≡ Ok m → Has names c m → AllByRecursion HasBody (base_of names c)
+bodies_told names text c m e h = subst (λ (b : Base). AllByRecursion HasBody b) (sym h.clauses) (bodies_are text m e)

@@ -1,0 +1,2 @@
+-- The body of a goal over cells.
+pub mod Converted

@@ -1,0 +1,3 @@
+-- What a copy shows, and the cells that it adds.
+pub mod Rows
+pub mod Tasks

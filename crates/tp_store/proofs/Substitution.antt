@@ -1,0 +1,3 @@
+-- The substitution that chained bindings stand for, and what keeps it.
+pub mod Chained
+pub mod Kept
