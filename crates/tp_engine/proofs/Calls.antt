@@ -1,10 +1,9 @@
 -- What holds of an engine, by the call that was the last.
-use Rattle.std.proofs.Common.{◌≡◌, ℕ, ◌+◌, ◌-◌, ◌<◌, ◌≤◌, ◌^◌, Bool, true, false, Result, Ok, Err, OnErr, List, length, All, refl, ap, sym, subst, ◌∙◌, arith}
-use Rattle.std.specs.List.{AllByRecursion}
+use Rattle.std.proofs.Common.{◌≡◌, ℕ, ◌+◌, ◌-◌, ◌<◌, ◌≤◌, ◌^◌, Bool, true, false, Result, Ok, Err, OnErr, length, refl, ap, sym, subst, ◌∙◌, arith}
 use Rattle.tp_meaning.specs.Machine.{IsStack}
 use Rattle.tp_meaning.specs.Step.{searched}
 use Rattle.tp_meaning.proofs.Places.{all-weaker}
-use Rattle.tp_meaning.proofs.Stack.{HasStack, HasStackUpTo, stack_above, rewound-stack}
+use Rattle.tp_meaning.proofs.Stack.{HasStackUpTo, stack_above, rewound-stack}
 use Rattle.tp_terms.specs.declared.world.Proc.{Proc}
 use Rattle.tp_store.proofs.FitsLemmas.{Fits-store}
 use Rattle.tp_parse.specs.declared.read.ReadTerm.{ReadTerm}
