@@ -1,10 +1,9 @@
 -- What holds of an engine, by the call that was the last.
-use Rattle.std.proofs.Common.{◌≡◌, ℕ, ◌+◌, ◌-◌, ◌<◌, ◌≤◌, ◌^◌, Bool, true, false, Result, Ok, Err, OnErr, List, length, All, refl, ap, sym, subst, ◌∙◌, arith}
-use Rattle.std.specs.List.{AllByRecursion}
+use Rattle.std.proofs.Common.{◌≡◌, ℕ, ◌+◌, ◌<◌, ◌≤◌, Bool, true, false, Result, Ok, Err, OnErr, length, refl, ap, sym, subst, ◌∙◌, arith}
 use Rattle.tp_meaning.specs.Machine.{IsStack}
 use Rattle.tp_meaning.specs.Step.{searched}
 use Rattle.tp_meaning.proofs.Places.{all-weaker}
-use Rattle.tp_meaning.proofs.Stack.{HasStack, HasStackUpTo, stack_above, rewound-stack}
+use Rattle.tp_meaning.proofs.Stack.{HasStackUpTo, stack_above, rewound-stack}
 use Rattle.tp_terms.specs.declared.world.Proc.{Proc}
 use Rattle.tp_store.proofs.FitsLemmas.{Fits-store}
 use Rattle.tp_parse.specs.declared.read.ReadTerm.{ReadTerm}
@@ -15,12 +14,11 @@ use Rattle.tp_engine.specs.declared.machine.Machine.{Machine}
 use Rattle.tp_engine.specs.declared.phase.Phase.{Phase}
 use Rattle.tp_engine.specs.declared.phase.Phase.TheVariants as phase
 use Rattle.tp_engine.specs.declared.phase.Stepped.{Stepped}
-use Rattle.tp_engine.specs.declared.phase.Stepped.TheVariants as answer
-use Rattle.tp_engine.specs.Machine.{IsMachine, IsBack, IsProgram, SameProgram, RewindsTo, Rewinds, Resumes, Steps, base_in, open_in, state_in}
-use Rattle.tp_engine.specs.Phases.{IsReady, IsFresh, IsRewound, Keeps, phase_after}
+use Rattle.tp_engine.specs.Machine.{IsMachine, IsBack, IsProgram, SameProgram, Rewinds, base_in, open_in, state_in}
+use Rattle.tp_engine.specs.Phases.{Keeps, phase_after}
 use Rattle.tp_engine.specs.Stands.{PlainStands, ProcStands}
 use Rattle.tp_engine.specs.State.{plain_of}
-use Rattle.tp_engine.specs.Told.{MayStep, MayRewind, MayResume, MayRun, IsWhole, IsSound, IsSame, IsCounted, IsUncounted, Told, number_after, seen_of, told_of}
+use Rattle.tp_engine.specs.Told.{MayRewind, IsWhole, IsSound, IsSame, IsCounted, IsUncounted, Told, number_after, seen_of, told_of}
 use Rattle.tp_engine.proofs.Later.{base_stays}
 
 -- what holds holds after an error
@@ -28,67 +26,28 @@ pub on_err : {T E P : Type 0} (r : Result T E) → P → OnErr r P
 on_err (Ok x) p = tt
 on_err (Err e) p = p
 
--- ---- which call may come
+-- ---- by the call that was the last
+
+back_program : (m : Machine) → IsBack m → IsProgram m
+back_program m h = let p = h.machine.program in record { table = p.table; base = p.base; named = p.named; goal = p.goal }
 
 module _ (m : Machine) (number steps : ℕ) where
-  pub record MaySteps : Type 0 where
-    pub ready : IsReady m number steps
-    pub few : steps < 2 ^ 64 - 1
+  pub kept_program : (ph : Phase) → Keeps ph m number steps → (ph ≡ phase.Broken → ⊥) → IsProgram m
+  kept_program phase.New k whole = k.ready.machine.program
+  kept_program (phase.Stepped r) k whole = k.machine.program
+  kept_program (phase.Rewound true) k whole = back_program m k.back
+  kept_program (phase.Rewound false) k whole = k.machine.program
+  kept_program phase.Resumed k whole = k.machine.program
+  kept_program phase.Ran k whole = k.program
+  kept_program phase.Broken k whole = absurd (whole refl)
 
-  pub may_step : (ph : Phase) → MayStep ph steps → Keeps ph m number steps → (ph ≡ phase.Broken → ⊥) → MaySteps
-  may_step phase.New may k whole = record { ready = k.ready; few = may }
-  may_step (phase.Stepped r) may k whole = record { ready = k; few = may.1 }
-  may_step (phase.Rewound found) may k whole = absurd may
-  may_step phase.Resumed may k whole = record { ready = k; few = may }
-  may_step phase.Ran may k whole = absurd may
-  may_step phase.Broken may k whole = absurd (whole refl)
-
-  pub may_rewind : (ph : Phase) → MayRewind ph → Keeps ph m number steps → IsReady m number steps
+  pub may_rewind : (ph : Phase) → MayRewind ph → Keeps ph m number steps → IsMachine m
   may_rewind phase.New may k = absurd may
-  may_rewind (phase.Stepped r) may k = k
+  may_rewind (phase.Stepped r) may k = k.machine
   may_rewind (phase.Rewound found) may k = absurd may
   may_rewind phase.Resumed may k = absurd may
   may_rewind phase.Ran may k = absurd may
   may_rewind phase.Broken may k = absurd may
-
-  pub may_resume : (ph : Phase) → MayResume ph → Keeps ph m number steps → (ph ≡ phase.Broken → ⊥) → IsRewound m number steps
-  may_resume phase.New may k whole = absurd may
-  may_resume (phase.Stepped r) may k whole = absurd may
-  may_resume (phase.Rewound true) may k whole = k
-  may_resume (phase.Rewound false) may k whole = absurd (cc)
-  may_resume phase.Resumed may k whole = absurd may
-  may_resume phase.Ran may k whole = absurd may
-  may_resume phase.Broken may k whole = absurd (whole refl)
-
-  pub may_run : (ph : Phase) → MayRun ph → Keeps ph m number steps → (ph ≡ phase.Broken → ⊥) → IsFresh m number steps
-  may_run phase.New may k whole = k
-  may_run (phase.Stepped r) may k whole = absurd may
-  may_run (phase.Rewound found) may k whole = absurd may
-  may_run phase.Resumed may k whole = absurd may
-  may_run phase.Ran may k whole = absurd may
-  may_run phase.Broken may k whole = absurd (whole refl)
-
-  -- ---- what holds after it
-
-  answers_after : (r : Stepped) → number_after r number ≤ number + 1
-  answers_after answer.Went = omega arith
-  answers_after answer.Success = omega arith
-  answers_after (answer.Dead cause) = omega arith
-  answers_after (answer.Raised place) = omega arith
-
-  pub stepped_keeps : (r : Stepped) (new : Machine) (n : ℕ) → IsReady m number steps → Steps m new r → n ≡ number_after r number → IsReady new n (steps + 1)
-  stepped_keeps r new n h s e = record {
-    machine = s.machine;
-    bound = (let b = h.bound in let l = s.bound in omega arith);
-    few = (let b = h.few in omega (arith, answers_after r, e));
-  }
-
-  pub rewound_keeps : (found : Bool) (new : Machine) → IsReady m number steps → RewindsTo m found new → Keeps (phase.Rewound found) new number steps
-  rewound_keeps true new h r = record { back = r.0; bound = (let b = h.bound in let l = r.1 in omega arith); few = h.few }
-  rewound_keeps false new h r = record { machine = r.0; bound = (let b = h.bound in let l = r.1 in omega arith); few = h.few }
-
-  pub resumed_keeps : (new : Machine) → IsRewound m number steps → Resumes m new → IsReady new number steps
-  resumed_keeps new h r = record { machine = r.machine; bound = (let b = h.bound in omega (arith, r.bound)); few = h.few }
 
 pub fault_keeps : (fault : AnswerFault) (m : Machine) (number steps : ℕ) → (fault ≡ why.Write → IsMachine m) → Keeps (phase_after fault) m number steps
 fault_keeps why.Write m number steps h = h refl
@@ -144,9 +103,6 @@ plain_sound m number steps h s le = record {
 
 pub machine_sound : (m : Machine) (number steps : ℕ) → IsMachine m → IsSound (seen_of m number steps)
 machine_sound m number steps h = plain_sound m number steps h.program h.stands h.worlds.world.vars
-
-pub back_program : (m : Machine) → IsBack m → IsProgram m
-back_program m h = let p = h.machine.program in record { table = p.table; base = p.base; named = p.named; goal = p.goal }
 
 back_sound : (m : Machine) (number steps : ℕ) → IsBack m → IsSound (seen_of m number steps)
 back_sound m number steps h = plain_sound m number steps (back_program m h) h.machine.stands h.machine.worlds.world.vars

@@ -5,8 +5,6 @@ use Rattle.std.proofs.lemmas.Bool.Decides.{nat_tests}
 use Rattle.std.specs.Option.{option_to_list}
 use Rattle.tp_terms.specs.Term.{Name}
 use Rattle.tp_meaning.specs.Clauses.{Base}
-use Rattle.tp_meaning.specs.World.{World}
-use Rattle.tp_meaning.specs.Machine as machine
 use Rattle.tp_meaning.specs.Machine.{cut_from}
 use Rattle.tp_engine.specs.declared.machine.Choice.{Choice}
 use Rattle.tp_engine.specs.Machine.{choice_of, choices_of, newest_from}

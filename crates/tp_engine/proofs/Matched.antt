@@ -1,5 +1,5 @@
 -- The clauses of a goal, one after another.
-use Rattle.std.proofs.Common.{◌≡◌, ℕ, zero, suc, ◌+◌, ◌<◌, ◌≤◌, Bool, true, false, List, [], ◌∷◌, map, length, drop, Option, Some, is_some, slice_get, refl, ap, sym, subst, ◌∙◌, arith}
+use Rattle.std.proofs.Common.{◌≡◌, ℕ, ◌+◌, ◌<◌, Bool, true, false, List, [], ◌∷◌, map, length, drop, Some, is_some, slice_get, refl, ap, sym, subst, ◌∙◌, arith}
 use Rattle.std.specs.Bool.{◌==◌}
 use Rattle.std.proofs.lemmas.Bool.{eqb-true}
 use Rattle.tp_terms.specs.declared.cells.Cell.{Cell}
@@ -16,9 +16,9 @@ use Rattle.tp_engine.specs.declared.task.Task.{Task}
 use Rattle.tp_engine.specs.declared.task.Call.{Call}
 use Rattle.tp_engine.specs.Program.{head_term}
 use Rattle.tp_engine.specs.Heads.{unifier, hits}
-use Rattle.tp_engine.specs.Machine.{IsMachine, IsStanding}
+use Rattle.tp_engine.specs.Machine.{IsStanding}
 use Rattle.tp_engine.specs.Meets.{clauses_of}
-use Rattle.tp_engine.proofs.HeadsMet.{place_within, here_next, head_is, view_hits, none_past}
+use Rattle.tp_engine.proofs.HeadsMet.{place_within, here_next, view_hits, none_past}
 
 -- where there is no place, there is no clause
 pub no_clauses : (names : List Name) (b : kept.Contents) (ids : List ClauseId) (cs : Base) → clauses_at names b ids ≡ map Some cs → length ids ≡ 0 → cs ≡ []

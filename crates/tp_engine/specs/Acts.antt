@@ -1,6 +1,5 @@
 -- What acts do to plain contents.
 use Rattle.std.specs.Prelude.{◌≡◌, ℕ, List, [], ◌∷◌, ◌++◌, length, map, Option, Some, None, Bool, true, false, slice_set, zero, suc, ℤ, int_lt, ◌&&◌, if◌then◌else◌}
-use Rattle.tp_terms.specs.declared.Limit.{Limit}
 use Rattle.tp_terms.specs.declared.Limit.TheVariants.{At, Inf}
 use Rattle.tp_terms.specs.declared.ProcStatus.{ProcStatus}
 use Rattle.tp_terms.specs.declared.ProcStatus.TheVariants.{Scheduled, Running, Parked, AwaitsMail, Ended}

@@ -2,12 +2,11 @@
 use Rattle.std.specs.Prelude.{◌≡◌, ℕ, Bool, true, false, nat_le, slice_get, ◌+◌, ◌-◌, ◌<◌, ◌≤◌, ◌^◌, List, [], ◌∷◌, ◌++◌, map, reverse, drop, length, Option, Some, None, All, IsTrue, is_some}
 use Rattle.tp_terms.specs.declared.cells.Ref.{Ref}
 use Rattle.tp_terms.specs.Term.{Name, Term, Terms, term_of, count_of}
-use Rattle.tp_terms.specs.Shown.{AreNamed, shows}
+use Rattle.tp_terms.specs.Shown.{AreNamed}
 use Rattle.tp_terms.specs.Names.{IsTable, Grows}
 use Rattle.tp_meaning.specs.World.{World, start}
 use Rattle.tp_meaning.specs.Body.{body}
 use Rattle.tp_meaning.specs.Goals.{goal_kind}
-use Rattle.tp_meaning.specs.Subst.{Subst, mgu}
 use Rattle.tp_meaning.specs.Clauses.{Clause, Base, predicate}
 use Rattle.tp_meaning.specs.Machine as machine
 use Rattle.tp_meaning.specs.Machine.{IsChoice, stepped, rewound, resumed}
@@ -15,7 +14,7 @@ use Rattle.tp_meaning.specs.Step.{searched}
 use Rattle.tp_meaning.proofs.Stack.{HasStack}
 use Rattle.tp_meaning.specs.Valid.{Valid}
 use Rattle.tp_meaning.proofs.Holds.{Holds, ChoiceHolds, Stands}
-use Rattle.tp_store.specs.Contents.{Contents, subst_of, seen}
+use Rattle.tp_store.specs.Contents.{seen}
 use Rattle.tp_clauses.specs.Contents.{IsBase, base_of}
 use Rattle.tp_engine.specs.declared.frames.Item.{Item}
 use Rattle.tp_engine.specs.declared.frames.Item.TheVariants.{Goal, Retry}

@@ -1,5 +1,5 @@
 -- What holds of an engine, by the call that was the last.
-use Rattle.std.specs.Prelude.{◌≡◌, ℕ, ◌<◌, ◌≤◌, true, false, []}
+use Rattle.std.specs.Prelude.{◌≡◌, ℕ, ◌<◌, ◌≤◌, true, []}
 use Rattle.tp_engine.specs.declared.answers.AnswerFault.{AnswerFault}
 use Rattle.tp_engine.specs.declared.answers.AnswerFault.TheVariants.{Write, NoMemory}
 use Rattle.tp_engine.specs.declared.machine.Machine.{Machine}

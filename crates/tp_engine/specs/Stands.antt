@@ -1,5 +1,5 @@
 -- All places and names that contents speak of are there.
-use Rattle.std.specs.Prelude.{◌≡◌, ℕ, ◌<◌, List, length, IfSome}
+use Rattle.std.specs.Prelude.{ℕ, ◌<◌, List, length, IfSome}
 use Rattle.std.specs.List.{AllByRecursion}
 use Rattle.tp_terms.specs.declared.cells.Ref.{Ref}
 use Rattle.tp_terms.specs.declared.world.Proc.{Proc}

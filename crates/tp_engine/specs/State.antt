@@ -1,5 +1,4 @@
 -- What a state of the code holds.
-use Rattle.std.specs.Prelude.{map}
 use Rattle.tp_engine.specs.declared.state.State.{State}
 use Rattle.tp_engine.specs.Boxes.{messages_of}
 use Rattle.tp_engine.specs.Plain.{Plain}

@@ -1,5 +1,5 @@
 -- A run, turn by turn.
-use Rattle.std.proofs.Common.{◌≡◌, ℕ, suc, ◌+◌, ◌-◌, ◌<◌, ◌≤◌, Bool, true, false, cond, nat_lt, List, [], ◌∷◌, ◌++◌, length, Option, Some, None, refl, ap, sym, subst, ◌∙◌, arith, append_assoc, ◌⊎◌, inl, inr}
+use Rattle.std.proofs.Common.{◌≡◌, ℕ, suc, ◌+◌, ◌-◌, ◌<◌, ◌≤◌, Bool, true, false, cond, nat_lt, List, [], ◌∷◌, ◌++◌, length, Option, Some, None, refl, ap, sym, subst, ◌∙◌, arith, append_assoc, inl, inr}
 use Rattle.std.specs.List.{AllByRecursion}
 use Rattle.std.proofs.lemmas.List.{append-nil}
 use Rattle.tp_terms.specs.Term.{Term}
@@ -18,7 +18,6 @@ use Rattle.tp_meaning.proofs.Turns.{total, Kept, kept-turned, total-start, total
 use Rattle.tp_parse.specs.declared.read.ReadTerm.{ReadTerm}
 use Rattle.tp_clauses.specs.Contents.{Contents}
 use Rattle.tp_engine.specs.declared.answers.AnswerFault.{AnswerFault}
-use Rattle.tp_engine.specs.declared.answers.AnswerFault.TheVariants as why
 use Rattle.tp_engine.specs.declared.machine.Alt.{Alt}
 use Rattle.tp_engine.specs.declared.machine.Choice.{Choice}
 use Rattle.tp_engine.specs.declared.machine.Machine.{Machine}
@@ -29,8 +28,8 @@ use Rattle.tp_engine.specs.declared.run.How.TheVariants.{NoMore, Stopped, Raised
 use Rattle.tp_engine.specs.declared.tally.Tally.{Tally}
 use Rattle.tp_meaning.specs.declared.DeadCause.TheVariants.{Failed, Deadlock, Late}
 use Rattle.tp_engine.specs.Answers.{Answer, Leaves, Takes, Took, IsCutShort, numbered}
-use Rattle.tp_engine.specs.Ended.{AnswerStands, Finds, RaisedStands, Reaches, after_turns, end_of, last_world, outcome_of, turns_of}
-use Rattle.tp_engine.specs.Machine.{IsMachine, SameProgram, base_in, choices_of, open_in, state_in, waiting_of, world_in}
+use Rattle.tp_engine.specs.Ended.{AnswerStands, Finds, RaisedStands, Reaches, after_turns, end_of, last_world, turns_of}
+use Rattle.tp_engine.specs.Machine.{IsMachine, base_in, choices_of, state_in, waiting_of, world_in}
 use Rattle.tp_engine.specs.Run.{EndsAt, IsCut, IsCutAt, IsRun, Turns, answers_by, counted, at_end, at_start, ended_by, found_by, next_answer, tally_of, turn_to}
 use Rattle.tp_engine.specs.Told.{seen_of}
 use Rattle.tp_engine.proofs.Finds.Taken.{numbered-append, took-append}

@@ -1,10 +1,8 @@
 -- Answers that were taken, in their order.
-use Rattle.std.proofs.Common.{◌≡◌, ℕ, suc, ◌+◌, List, [], ◌∷◌, ◌++◌, length, refl, ap, sym, subst, ◌∙◌, arith, append_assoc, ◌⊎◌, inl, inr}
+use Rattle.std.proofs.Common.{◌≡◌, ℕ, suc, ◌+◌, List, [], ◌∷◌, ◌++◌, length, ap, subst, ◌∙◌, arith}
 use Rattle.tp_terms.specs.declared.text.Named.{Named}
 use Rattle.tp_meaning.specs.World.{World}
 use Rattle.tp_parse.specs.Ops.{Entries}
-use Rattle.tp_engine.specs.declared.answers.AnswerFault.{AnswerFault}
-use Rattle.tp_engine.specs.declared.answers.AnswerFault.TheVariants as why
 use Rattle.tp_engine.specs.Answers.{Answer, Takes, Took, numbered}
 
 pub numbered-append : (named : List Named) (ops : Entries) (n : ℕ) (xs ys : List (World × ℕ)) → numbered named ops n (xs ++ ys) ≡ numbered named ops n xs ++ numbered named ops (n + length xs) ys

@@ -1,6 +1,6 @@
 -- A turn of the code is one of the definitions' machine.
-use Rattle.std.proofs.Common.{◌≡◌, ℕ, ◌+◌, ◌<◌, Bool, true, false, cond, nat_lt, List, [], ◌∷◌, length, Option, Some, None, IfSome, refl, ap, sym, subst, ◌∙◌, arith, length-append, ◌⊎◌, inl, inr}
-use borrow.Author.Tests.{lt-ltb, le-ltb}
+use Rattle.std.proofs.Common.{◌≡◌, ℕ, ◌+◌, ◌<◌, Bool, true, false, cond, List, [], ◌∷◌, length, Option, Some, None, IfSome, refl, ap, sym, subst, ◌∙◌, arith, length-append, inl, inr}
+use borrow.Author.Tests.{lt-ltb}
 use Rattle.tp_terms.specs.Term.{Term}
 use Rattle.tp_meaning.specs.World.{World}
 use Rattle.tp_meaning.specs.Search as search
@@ -21,9 +21,9 @@ use Rattle.tp_engine.specs.declared.phase.Stepped.TheVariants as answer
 use Rattle.tp_engine.specs.declared.run.How.{How}
 use Rattle.tp_engine.specs.declared.run.How.TheVariants.{NoMore}
 use Rattle.tp_engine.specs.declared.tally.Tally.{Tally}
-use Rattle.tp_engine.specs.Answers.{Answer, Leaves, Takes, Took, answer_in}
-use Rattle.tp_engine.specs.Machine.{IsMachine, SameProgram, Steps, Rewinds, Resumes, answer_by, base_in, state_in, world_in}
-use Rattle.tp_engine.specs.Run.{CountsFit, EndsAt, Follows, GoesBack, IsCut, IsCutAt, IsFollowed, Turns, answers_by, counted, found_by, next_answer, turn_to}
+use Rattle.tp_engine.specs.Answers.{Leaves, Takes, Took, answer_in}
+use Rattle.tp_engine.specs.Machine.{SameProgram, Steps, Rewinds, Resumes, answer_by, base_in, state_in, world_in}
+use Rattle.tp_engine.specs.Run.{CountsFit, EndsAt, Follows, GoesBack, IsCut, IsCutAt, Turns, answers_by, counted, found_by, next_answer}
 use Rattle.tp_engine.specs.Told.{seen_of}
 use Rattle.tp_engine.proofs.SamePrograms.{same_trans}
 

@@ -1,11 +1,10 @@
 -- On with a clause, after going back.
-use Rattle.std.proofs.Common.{◌≡◌, ℕ, true, length, IfSome, Vec, Global, ◌+◌, ◌<◌, ◌^◌, ◌-◌, List, [], ◌∷◌, drop, Option, Some, None, refl, ap, sym, subst, ◌∙◌, arith}
+use Rattle.std.proofs.Common.{◌≡◌, ℕ, true, length, IfSome, Vec, Global, ◌+◌, ◌<◌, List, ◌∷◌, drop, Some, None, refl, ap, sym, subst, ◌∙◌}
 use Rattle.tp_terms.specs.declared.cells.Ref.{Ref}
-use Rattle.tp_terms.specs.Term.{Name, Terms, Atom, Comp, NoMore, More, term_of, count_of}
+use Rattle.tp_terms.specs.Term.{Name, Terms, NoMore, More, term_of, count_of}
 use Rattle.tp_terms.specs.Shown.{name_at}
 use Rattle.tp_meaning.specs.Goals.{goal_kind}
-use Rattle.tp_meaning.specs.World.{World}
-use Rattle.tp_meaning.specs.Clauses.{Clause, Base, predicate}
+use Rattle.tp_meaning.specs.Clauses.{predicate}
 use Rattle.tp_meaning.specs.Valid.{Valid}
 use Rattle.tp_store.specs.Contents.{seen}
 use Rattle.tp_clauses.specs.Contents.{base_of}
@@ -23,9 +22,9 @@ use Rattle.tp_engine.specs.Stands.{PlainStands}
 use Rattle.tp_engine.specs.Untried.{untried}
 use Rattle.tp_engine.specs.Lists.{items_at}
 use Rattle.tp_engine.specs.Heads.{hits}
-use Rattle.tp_engine.specs.Machine.{IsMachine, IsHit, Resumes, base_in, world_in, items_in}
-use Rattle.tp_engine.specs.Meets.{Calls, Hits, HasCurrent, IsCall, clauses_of, args_seen}
-use Rattle.tp_engine.specs.Goes.{IsKept, KeepsWorlds, Goes, Enters, Returns, untried_in}
+use Rattle.tp_engine.specs.Machine.{IsHit, Resumes, base_in, world_in}
+use Rattle.tp_engine.specs.Meets.{Calls, Hits, HasCurrent, IsCall, args_seen}
+use Rattle.tp_engine.specs.Goes.{IsKept, Enters, Returns, untried_in}
 use Rattle.tp_engine.proofs.Step.First.{standing, count-seen}
 use Rattle.tp_engine.proofs.Step.Parts.{resumes}
 

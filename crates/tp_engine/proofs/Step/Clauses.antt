@@ -1,5 +1,5 @@
 -- Steps of goals that clauses define.
-use Rattle.std.proofs.Common.{◌≡◌, ℕ, zero, suc, ◌+◌, ◌-◌, ◌<◌, ◌≤◌, ◌^◌, Bool, true, false, cond, List, [], ◌∷◌, ◌++◌, map, length, drop, Option, Some, None, Ok, Err, All, is_some, slice_get, refl, ap, sym, subst, ◌∙◌, arith, IfSome}
+use Rattle.std.proofs.Common.{◌≡◌, ℕ, zero, suc, ◌+◌, ◌-◌, ◌<◌, ◌≤◌, ◌^◌, Bool, true, false, cond, List, [], ◌∷◌, ◌++◌, map, length, drop, Option, Some, None, Ok, Err, is_some, refl, ap, sym, subst, ◌∙◌, arith, IfSome}
 use Rattle.std.specs.List.{position_from, filter_map, cons_option}
 use Rattle.std.specs.Option.{option_map}
 use Rattle.tp_terms.specs.declared.cells.Cell.{Cell}
@@ -8,14 +8,13 @@ use Rattle.tp_terms.specs.Term.{Name, Term, Terms, NoMore, More, term_of, count_
 use Rattle.tp_terms.specs.Shown.{name_at, shows}
 use Rattle.tp_terms.proofs.NameLemmas.{Grows-same}
 use Rattle.tp_meaning.specs.Subst.{Subst, IsSubst, Next, apply, mgu, rounds, walk, solve_pair}
-use Rattle.tp_meaning.specs.declared.goals.GoalKind.{GoalKind}
 use Rattle.tp_meaning.specs.declared.DeadCause.TheVariants.{Failed}
 use Rattle.tp_meaning.specs.Goals.{goal_kind}
 use Rattle.tp_meaning.specs.Checks.{Checked, unknown}
 use Rattle.tp_meaning.specs.World as world
 use Rattle.tp_meaning.specs.World.{World, at_place, with_items, world_under, item_under, process_under}
 use Rattle.tp_meaning.specs.Search.{Dead, Branch}
-use Rattle.tp_meaning.specs.Turn.{Turn, Gives, some, raised_at, going}
+use Rattle.tp_meaning.specs.Turn.{Turn, Gives, some, raised_at}
 use Rattle.tp_meaning.specs.Clauses as clauses
 use Rattle.tp_meaning.specs.Clauses.{Base, Clause, predicate, renamed, head_of, by_clause, try_clause, worlds_of, user_goal}
 use Rattle.tp_meaning.specs.Step.{step, goal_by}
@@ -37,16 +36,16 @@ use Rattle.tp_engine.specs.declared.phase.Stepped.TheVariants as answer
 use Rattle.tp_engine.specs.declared.task.Task.{Task}
 use Rattle.tp_engine.specs.declared.task.Call.{Call}
 use Rattle.tp_engine.specs.State.{plain_of}
-use Rattle.tp_engine.specs.Program.{head_term, body_term}
+use Rattle.tp_engine.specs.Program.{head_term}
 use Rattle.tp_engine.specs.Lists.{items_at}
-use Rattle.tp_engine.specs.Plain.{Plain, item_of, items_of, processes_of, world_of}
-use Rattle.tp_engine.specs.Stands.{PlainStands, ItemsStand}
-use Rattle.tp_engine.specs.Acts.{resting, pushed, bodied}
+use Rattle.tp_engine.specs.Plain.{Plain, item_of, items_of, world_of}
+use Rattle.tp_engine.specs.Stands.{PlainStands}
+use Rattle.tp_engine.specs.Acts.{resting, bodied}
 use Rattle.tp_engine.specs.Heads.{unifier, hits, EntersClause}
 use Rattle.tp_engine.specs.Untried.{untried_by, untried_goal, untried_clauses}
-use Rattle.tp_engine.specs.Machine.{IsMachine, Steps, IsHit, base_in, world_in, choices_of}
+use Rattle.tp_engine.specs.Machine.{IsMachine, Steps, base_in, world_in, choices_of}
 use Rattle.tp_engine.specs.Meets.{Calls, Hits, IsUnknown, args_seen, clauses_of, found_from}
-use Rattle.tp_engine.specs.Goes.{Goes, MayKeep, IsKept, Enters, untried_in}
+use Rattle.tp_engine.specs.Goes.{MayKeep, IsKept, Enters, untried_in}
 use Rattle.tp_engine.proofs.Worlds.Items.{OtherItems, other-stands, other-world, other-rest, other-push, pushed-items, list_stands}
 use Rattle.tp_engine.proofs.Worlds.Stores.{OtherStore, store-stands, under-world, items-by}
 use Rattle.tp_engine.proofs.Step.First.{process_there, items-there, call-gives, count-seen, rest_in, turn_in}

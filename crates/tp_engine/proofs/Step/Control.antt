@@ -1,8 +1,8 @@
 -- Steps of control goals.
-use Rattle.std.proofs.Common.{◌≡◌, ℕ, zero, suc, ◌+◌, ◌<◌, ◌≤◌, List, [], ◌∷◌, map, length, Option, Some, Err, refl, ap, sym, subst, ◌∙◌, arith}
+use Rattle.std.proofs.Common.{◌≡◌, ℕ, zero, suc, ◌+◌, ◌<◌, ◌≤◌, List, ◌∷◌, map, length, Some, Err, refl, ap, sym, subst, ◌∙◌, arith}
 use Rattle.tp_terms.specs.declared.cells.Ref.{Ref}
-use Rattle.tp_terms.specs.Term.{Name, Term, Terms, More, all_replaced, count_of}
-use Rattle.tp_terms.specs.Shown.{name_at, args_at, shows}
+use Rattle.tp_terms.specs.Term.{Name, Terms, count_of}
+use Rattle.tp_terms.specs.Shown.{name_at}
 use Rattle.tp_terms.proofs.NameLemmas.{Grows-same}
 use Rattle.tp_meaning.specs.Control.{arg}
 use Rattle.tp_meaning.specs.declared.goals.GoalKind.{GoalKind}
@@ -15,13 +15,13 @@ use Rattle.tp_meaning.specs.Clauses.{Base}
 use Rattle.tp_meaning.specs.declared.goals.ControlGoal.TheVariants as control
 use Rattle.tp_meaning.specs.World as world
 use Rattle.tp_meaning.specs.World.{World, with_items, stamped}
-use Rattle.tp_meaning.specs.Turn.{Turn, Gives, going, one}
+use Rattle.tp_meaning.specs.Turn.{Turn, going, one}
 use Rattle.tp_meaning.specs.Search.{Dead}
 use Rattle.tp_meaning.specs.declared.DeadCause.TheVariants.{Failed}
-use Rattle.tp_meaning.specs.Step.{step, goal_by}
+use Rattle.tp_meaning.specs.Step.{goal_by}
 use Rattle.tp_meaning.specs.Machine as machine
 use Rattle.tp_meaning.proofs.OwnGoals.Counts.{fewest-fits}
-use Rattle.tp_store.specs.Contents.{Contents, subst_of, seen}
+use Rattle.tp_store.specs.Contents.{Contents, seen}
 use Rattle.tp_engine.specs.declared.frames.Item.{Item}
 use Rattle.tp_engine.specs.declared.frames.Item.TheVariants.{Goal}
 use Rattle.tp_engine.specs.declared.machine.Machine.{Machine}
@@ -31,11 +31,10 @@ use Rattle.tp_engine.specs.declared.task.Task.{Task}
 use Rattle.tp_engine.specs.declared.task.Call.{Call}
 use Rattle.tp_engine.specs.State.{plain_of}
 use Rattle.tp_engine.specs.Lists.{items_at}
-use Rattle.tp_engine.specs.Plain.{Plain, item_of, items_of, world_of}
-use Rattle.tp_engine.specs.Stands.{PlainStands, ItemStands}
+use Rattle.tp_engine.specs.Plain.{Plain, item_of, world_of}
 use Rattle.tp_engine.specs.Acts.{pushed, resting}
 use Rattle.tp_engine.specs.Machine.{IsMachine, Steps, base_in, world_in}
-use Rattle.tp_engine.specs.Meets.{Calls, HasFirst, IsUnknown, args_seen}
+use Rattle.tp_engine.specs.Meets.{Calls, IsUnknown, args_seen}
 use Rattle.tp_engine.specs.Goes.{Goes}
 use Rattle.tp_engine.proofs.Worlds.Items.{OtherItems, other-stands, other-world, other-rest, other-push, pushed-items}
 use Rattle.tp_engine.proofs.Step.First.{call-gives, count-seen, rest_in, turn_in}

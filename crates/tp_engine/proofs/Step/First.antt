@@ -1,15 +1,12 @@
 -- The first item of the running process decides the step.
-use Rattle.std.proofs.Common.{◌≡◌, ℕ, zero, suc, ◌+◌, ◌<◌, ◌≤◌, Bool, List, [], ◌∷◌, map, length, Option, Some, None, Ok, Err, slice_get, refl, ap, sym, subst, ◌∙◌, arith}
-use Rattle.std.proofs.lemmas.Option.{slice_get-get_or}
+use Rattle.std.proofs.Common.{◌≡◌, ℕ, zero, suc, ◌<◌, List, [], ◌∷◌, map, length, Option, Some, None, slice_get, refl, ap, ◌∙◌, arith}
 use Rattle.std.specs.Option.{option_map}
 use Rattle.tp_terms.specs.declared.world.ItemId.{ItemId}
-use Rattle.tp_terms.specs.declared.world.Proc.{Proc}
-use Rattle.tp_terms.specs.Term.{Name, Term, Terms, Var, Int, NoMore, More, term_of, count_of, all_replaced}
+use Rattle.tp_terms.specs.Term.{Name, Terms, NoMore, More, term_of, count_of}
 use Rattle.tp_terms.specs.Shown.{name_at, args_at}
-use Rattle.tp_meaning.specs.Subst.{Subst, value_at}
+use Rattle.tp_meaning.specs.Subst.{value_at}
 use Rattle.tp_meaning.specs.declared.goals.GoalKind.{GoalKind}
 use Rattle.tp_meaning.specs.Goals.{goal_kind}
-use Rattle.tp_meaning.specs.Checks.{Checked, error}
 use Rattle.tp_meaning.specs.World as world
 use Rattle.tp_meaning.specs.World.{World, at_place}
 use Rattle.tp_meaning.specs.Turn.{Turn, Gives, raised_at}
@@ -17,7 +14,7 @@ use Rattle.tp_meaning.specs.Clauses.{Base}
 use Rattle.tp_meaning.specs.Scheduler.{choose}
 use Rattle.tp_meaning.specs.Step.{step, item_step, goal_step, goal_by}
 use Rattle.tp_meaning.specs.Valid.{Valid}
-use Rattle.tp_meaning.proofs.Leaves.{Runs, runs-there}
+use Rattle.tp_meaning.proofs.Leaves.{runs-there}
 use Rattle.tp_meaning.proofs.Places.{get-at_place, length-at_place}
 use Rattle.tp_meaning.proofs.Complete.{count-replaced}
 use Rattle.tp_store.specs.Contents.{Contents, subst_of, seen}
@@ -29,9 +26,8 @@ use Rattle.tp_engine.specs.declared.task.Call.{Call}
 use Rattle.tp_engine.specs.State.{plain_of}
 use Rattle.tp_engine.specs.Lists.{items_at}
 use Rattle.tp_engine.specs.Plain.{Plain, item_of, items_of, process_of, with_running, processes_of, world_of}
-use Rattle.tp_engine.specs.Machine.{IsMachine, IsStanding, base_in, world_in, items_in}
-use Rattle.tp_engine.specs.Meets.{HasFirst, Meets, Calls, IsCall, args_seen}
-use Rattle.tp_engine.specs.Meets as meets
+use Rattle.tp_engine.specs.Machine.{IsMachine, IsStanding, base_in, world_in}
+use Rattle.tp_engine.specs.Meets.{HasFirst, Meets, Calls, args_seen}
 
 pub len-map : {A B : Type 0} (f : A → B) (xs : List A) → length (map f xs) ≡ length xs
 len-map f [] = refl

@@ -1,8 +1,6 @@
 -- Steps of the other items: the end of a process, a commit, and a condition that is tried again.
-use Rattle.std.proofs.Common.{◌≡◌, ℕ, zero, suc, false, ◌+◌, ◌<◌, ◌≤◌, List, [], ◌∷◌, map, length, take, Option, Some, None, All, slice_get, IfSome, refl, ap, sym, subst, ◌∙◌, arith}
+use Rattle.std.proofs.Common.{◌≡◌, ℕ, zero, suc, false, ◌+◌, ◌<◌, List, [], ◌∷◌, map, length, take, Option, Some, None, slice_get, IfSome, refl, ap, sym, subst, ◌∙◌, arith}
 use Rattle.std.proofs.lemmas.List.{length-set}
-use Rattle.std.specs.List.{AllByRecursion}
-use Rattle.tp_terms.specs.declared.ProcStatus.{ProcStatus}
 use Rattle.tp_terms.specs.declared.ProcStatus.TheVariants.{Ended, Parked}
 use Rattle.tp_terms.specs.declared.cells.Ref.{Ref}
 use Rattle.tp_terms.specs.declared.world.ItemId.{ItemId}
@@ -10,17 +8,15 @@ use Rattle.tp_terms.specs.declared.world.Proc.{Proc}
 use Rattle.tp_terms.specs.declared.world.EventKind.TheVariants as event
 use Rattle.tp_terms.proofs.NameLemmas.{Grows-same}
 use Rattle.tp_terms.specs.Names.{IsTable}
-use Rattle.tp_terms.specs.Term.{Name, Term}
+use Rattle.tp_terms.specs.Term.{Name}
 use Rattle.tp_meaning.specs.World as world
 use Rattle.tp_meaning.specs.World.{World, with_items, with_status, stamped, at_place}
 use Rattle.tp_meaning.specs.Turn.{Gives, going, one, two}
 use Rattle.tp_meaning.specs.Process.{tried, parked, await_again}
 use Rattle.tp_meaning.specs.Search as search
-use Rattle.tp_meaning.specs.Step.{step, ended, item_step}
-use Rattle.tp_meaning.specs.Machine as machine
+use Rattle.tp_meaning.specs.Step.{step, item_step}
 use Rattle.tp_meaning.specs.Machine.{cut_from}
-use Rattle.tp_store.specs.Contents.{Contents, seen}
-use Rattle.tp_engine.specs.declared.frames.Item.{Item}
+use Rattle.tp_store.specs.Contents.{seen}
 use Rattle.tp_engine.specs.declared.frames.Item.TheVariants.{Goal, Commit, Retry}
 use Rattle.tp_engine.specs.declared.machine.Alt.TheVariants.{Second}
 use Rattle.tp_engine.specs.declared.machine.Machine.{Machine}
@@ -31,15 +27,15 @@ use Rattle.tp_engine.specs.Lists.{items_at}
 use Rattle.tp_engine.specs.Plain.{Plain, item_of, items_of, world_of}
 use Rattle.tp_engine.specs.Stands.{PlainStands}
 use Rattle.tp_engine.specs.Acts.{pushed, resting, noted, left, mark_others}
-use Rattle.tp_engine.specs.Untried.{untried, untried_by, second_of}
-use Rattle.tp_engine.specs.Machine.{IsMachine, Steps, Resumes, base_in, world_in, items_in, choices_of, GoesOn, IsAgain}
+use Rattle.tp_engine.specs.Untried.{untried_by, second_of}
+use Rattle.tp_engine.specs.Machine.{IsMachine, Steps, Resumes, base_in, world_in, choices_of, IsAgain}
 use Rattle.tp_engine.specs.Meets.{Runs, HasFirst}
-use Rattle.tp_engine.specs.Goes.{Goes, KeepsWorlds, MayKeep, IsKept, Returns, untried_in}
-use Rattle.tp_engine.proofs.Worlds.Items.{OtherItems, other-stands, other-world, other-rest, other-push, pushed-items, list_stands}
+use Rattle.tp_engine.specs.Goes.{Goes, MayKeep, IsKept, Returns, untried_in}
+use Rattle.tp_engine.proofs.Worlds.Items.{OtherItems, other-stands, other-rest, other-push, pushed-items}
 use Rattle.tp_engine.proofs.Worlds.Procs.{left-stands, left-world, noted-stands, noted-world, marked-stands, marked-world}
 use Rattle.tp_engine.proofs.Step.First.{standing, first-step, item-step, process_there, there, rest_in, turn_in, items-there}
 use Rattle.tp_engine.proofs.Step.Parts.{to_one, to_branch, to_commit, resumes}
-use Rattle.tp_engine.proofs.Step.Control.{other-goes, other-to}
+use Rattle.tp_engine.proofs.Step.Control.{other-to}
 
 -- ---- the end
 

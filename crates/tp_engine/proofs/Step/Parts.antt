@@ -1,17 +1,15 @@
 -- From a world that the machine goes on to, to a step of the machine.
-use Rattle.std.proofs.Common.{◌≡◌, ℕ, ◌+◌, ◌<◌, ◌≤◌, List, [], ◌∷◌, ◌++◌, map, length, take, reverse, Some, None, All, Vec, Global, refl, ap, sym, subst, ◌∙◌, arith}
+use Rattle.std.proofs.Common.{◌≡◌, ℕ, ◌+◌, ◌<◌, ◌≤◌, List, [], ◌∷◌, ◌++◌, map, length, take, Some, None, All, Vec, Global, refl, ap, sym, subst, ◌∙◌, arith}
 use Rattle.std.proofs.lemmas.List.{reverse-append}
 use Rattle.std.proofs.lemmas.List.Elements.{All-take, All-push}
 use Rattle.std.specs.List.{AllByRecursion}
 use Rattle.tp_terms.specs.declared.cells.Ref.{Ref}
-use Rattle.tp_terms.specs.declared.text.Named.{Named}
 use Rattle.tp_terms.specs.Term.{Name, Term}
 use Rattle.tp_terms.specs.Shown.{AreNamed}
 use Rattle.tp_terms.specs.Names.{IsTable, Grows}
 use Rattle.tp_terms.proofs.NameLemmas.{Grows-same, Grows-length}
 use Rattle.tp_terms.proofs.ShownLemmas.{AreNamed-longer}
 use Rattle.tp_meaning.specs.World.{World}
-use Rattle.tp_meaning.specs.Clauses.{Base}
 use Rattle.tp_meaning.specs.Turn.{Gives, one}
 use Rattle.tp_meaning.specs.Search as search
 use Rattle.tp_meaning.specs.Step.{step, searched}
@@ -32,8 +30,8 @@ use Rattle.tp_store.specs.Contents.{seen}
 use Rattle.tp_engine.specs.State.{plain_of}
 use Rattle.tp_engine.specs.Plain.{Plain, world_of}
 use Rattle.tp_engine.specs.Stands.{PlainStands}
-use Rattle.tp_engine.specs.Program.{GoalFits, goal_term}
-use Rattle.tp_engine.specs.Machine.{IsProgram, SameProgram, ChoiceFits, GoesOn, choice_of, open_at, waiting_of, IsMachine, Steps, Resumes, ErrorStands, base_in, world_in, open_in, state_in, choices_of, answer_by}
+use Rattle.tp_engine.specs.Program.{GoalFits}
+use Rattle.tp_engine.specs.Machine.{IsProgram, ChoiceFits, GoesOn, choice_of, open_at, waiting_of, IsMachine, Steps, Resumes, ErrorStands, base_in, world_in, state_in, choices_of, answer_by}
 use Rattle.tp_engine.specs.Goes.{KeepsWorlds, IsKept, MayKeep, Goes, Returns, untried_in}
 use Rattle.tp_engine.proofs.Program.{base_fits}
 use Rattle.tp_engine.proofs.Worlds.Names.{base-later, choices-later, choice-later}

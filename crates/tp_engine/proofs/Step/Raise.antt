@@ -1,5 +1,5 @@
 -- Steps that raise an error.
-use Rattle.std.proofs.Common.{◌≡◌, ℕ, ◌+◌, ◌<◌, ◌≤◌, List, [], map, length, Option, Some, None, Err, slice_get, refl, ap, sym, subst, ◌∙◌, arith, length-append}
+use Rattle.std.proofs.Common.{◌≡◌, ◌<◌, ◌≤◌, List, [], map, length, Some, None, slice_get, refl, ap, sym, subst, ◌∙◌, arith, length-append}
 use Rattle.std.proofs.lemmas.Option.{slice_get-map}
 use Rattle.std.specs.Option.{option_map}
 use Rattle.tp_terms.specs.declared.cells.Ref.{Ref}
@@ -17,7 +17,7 @@ use Rattle.tp_meaning.specs.Search as search
 use Rattle.tp_meaning.specs.Goals.{goal_kind}
 use Rattle.tp_meaning.specs.Step.{step, goal_step}
 use Rattle.tp_meaning.proofs.Places.{get-at_place}
-use Rattle.tp_store.specs.Contents.{Contents, subst_of, seen}
+use Rattle.tp_store.specs.Contents.{subst_of}
 use Rattle.tp_engine.specs.declared.errors.Cause.{Cause}
 use Rattle.tp_engine.specs.declared.errors.Cause.TheVariants as cause
 use Rattle.tp_engine.specs.declared.machine.Machine.{Machine}
@@ -25,7 +25,7 @@ use Rattle.tp_engine.specs.declared.state.State.{State}
 use Rattle.tp_engine.specs.declared.phase.Stepped.TheVariants as answer
 use Rattle.tp_engine.specs.declared.task.Task.{Task}
 use Rattle.tp_engine.specs.State.{plain_of}
-use Rattle.tp_engine.specs.Plain.{Plain, items_of, process_of, with_running, processes_of, world_of}
+use Rattle.tp_engine.specs.Plain.{Plain, items_of, process_of, with_running, world_of}
 use Rattle.tp_engine.specs.Stands.{PlainStands}
 use Rattle.tp_engine.specs.Built.{Built}
 use Rattle.tp_engine.specs.Causes.{kind_term, CauseStands}

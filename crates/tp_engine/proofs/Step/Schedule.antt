@@ -1,12 +1,11 @@
 -- Steps of the scheduler.
-use Rattle.std.proofs.Common.{◌≡◌, ℕ, zero, suc, ◌+◌, ◌<◌, ◌≤◌, Bool, true, false, cond, ◌||◌, ◌&&◌, List, [], ◌∷◌, map, length, position, Option, Some, None, slice_get, slice_set, refl, ap, sym, subst, ◌∙◌, arith, ℤ, int_lt, if◌then◌else◌}
+use Rattle.std.proofs.Common.{◌≡◌, ℕ, zero, suc, ◌+◌, ◌<◌, Bool, true, false, cond, ◌||◌, ◌&&◌, List, [], ◌∷◌, map, length, position, Option, Some, None, slice_get, slice_set, refl, ap, sym, subst, ◌∙◌, arith, ℤ, int_lt, if◌then◌else◌}
 use Rattle.std.proofs.lemmas.List.{length-set}
 use Rattle.std.proofs.lemmas.List.Quantifiers.{position-Some}
 use Rattle.std.proofs.lemmas.Iterator.Adapters.{position_from-zero}
 use Rattle.std.proofs.lemmas.Option.{slice_get-map}
 use Rattle.std.specs.List.{AllByRecursion, list_any, position_from}
 use Rattle.std.specs.Option.{option_map}
-use Rattle.tp_terms.specs.declared.Limit.{Limit}
 use Rattle.tp_terms.specs.declared.Limit.TheVariants.{At, Inf}
 use Rattle.tp_terms.specs.declared.ProcStatus.{ProcStatus}
 use Rattle.tp_terms.specs.declared.ProcStatus.TheVariants.{Scheduled, Running, Parked, AwaitsMail, Ended}
@@ -29,10 +28,10 @@ use Rattle.tp_engine.specs.declared.machine.Machine.{Machine}
 use Rattle.tp_engine.specs.declared.state.State.{State}
 use Rattle.tp_engine.specs.declared.phase.Stepped.TheVariants as answer
 use Rattle.tp_engine.specs.State.{plain_of}
-use Rattle.tp_engine.specs.Plain.{Plain, items_of, process_of, with_running, processes_of, slot_of, world_of}
+use Rattle.tp_engine.specs.Plain.{Plain, items_of, process_of, with_running, slot_of, world_of}
 use Rattle.tp_engine.specs.Stands.{PlainStands}
 use Rattle.tp_engine.specs.Acts.{IsNextTime, ran, noted, begun, opened, is_marked, is_live, is_late}
-use Rattle.tp_engine.specs.Machine.{IsMachine, Steps, base_in, world_in}
+use Rattle.tp_engine.specs.Machine.{Steps, base_in, world_in}
 use Rattle.tp_engine.specs.Meets.{IsIdle, IsUnmarked, TakesEntry}
 use Rattle.tp_engine.proofs.Worlds.Procs.{ran-stands, ran-world, noted-stands, noted-world, begun-stands, begun-world}
 use Rattle.tp_engine.proofs.Step.First.{there, len-map}

@@ -2,7 +2,6 @@
 use Rattle.std.proofs.Common.{◌≡◌, ℕ, zero, suc, ◌+◌, ◌<◌, ◌≤◌, List, [], ◌∷◌, ◌++◌, map, length, Option, Some, None, IfSome, get_or, refl, ap, sym, subst, ◌∙◌, arith, length-append, append_assoc}
 use Rattle.std.proofs.lemmas.List.{get_or_append_left}
 use Rattle.std.specs.List.{AllByRecursion}
-use Rattle.tp_terms.specs.declared.cells.Ref.{Ref}
 use Rattle.tp_terms.specs.declared.world.ItemId.{ItemId}
 use Rattle.tp_terms.specs.declared.world.Proc.{Proc}
 use Rattle.tp_terms.specs.Term.{Name}
@@ -11,11 +10,10 @@ use Rattle.tp_meaning.specs.World.{World, at_place, with_items, stamped}
 use Rattle.tp_meaning.proofs.Places.{all-append, all-weaker, map-same, at_place-over}
 use Rattle.tp_store.specs.Contents.{Contents}
 use Rattle.tp_engine.specs.declared.frames.Item.{Item}
-use Rattle.tp_engine.specs.declared.frames.Item.TheVariants.{Goal, Commit, Retry}
 use Rattle.tp_engine.specs.Lists.{items_at}
 use Rattle.tp_engine.specs.Plain.{Plain, item_of, items_of, process_of, with_running, processes_of, world_of}
 use Rattle.tp_engine.specs.Stands.{ItemStands, ItemsStand, ListsStand, ProcStands, PlainStands}
-use Rattle.tp_engine.specs.Acts.{pushed, resting, bodied}
+use Rattle.tp_engine.specs.Acts.{pushed, resting}
 
 -- the list of a place stands
 pub list_stands : (n : ℕ) (ls : List (List Item)) (f : Option ItemId) → ListsStand n ls → IfSome f (λ i. i.at < length ls) → ItemsStand n (items_at ls f)

@@ -14,7 +14,7 @@ use Rattle.tp_terms.specs.Shown.{shows, name_at, AreNamed}
 use Rattle.tp_terms.proofs.NameLemmas.{Grows-shows, Grows-name_at, Grows-length}
 use Rattle.tp_terms.proofs.ShownLemmas.{AreNamed-longer}
 use Rattle.tp_meaning.specs.Subst.{mgu, apply}
-use Rattle.tp_meaning.specs.Clauses.{Base, Clause, renamed, head_of}
+use Rattle.tp_meaning.specs.Clauses.{Base, renamed, head_of}
 use Rattle.tp_meaning.specs.World as world
 use Rattle.tp_meaning.proofs.Places.{all-weaker, all-append, map-same}
 use Rattle.tp_store.specs.Contents.{Contents, subst_of, seen}

@@ -1,7 +1,7 @@
 -- Processes that run, go on later, start, end and are marked.
-use Rattle.std.proofs.Common.{◌≡◌, ℕ, zero, suc, ◌+◌, ◌<◌, Bool, true, List, [], ◌∷◌, ◌++◌, map, length, Option, Some, None, IfSome, slice_get, slice_set, refl, ap, sym, subst, ◌∙◌, arith, length-append}
+use Rattle.std.proofs.Common.{◌≡◌, ℕ, zero, suc, ◌<◌, true, List, [], ◌∷◌, map, length, Some, None, slice_get, slice_set, refl, ap, sym, subst, ◌∙◌}
 use Rattle.std.proofs.lemmas.List.{length-set, map-append}
-use Rattle.std.proofs.lemmas.Option.{same_Some, slice_get-map, slice_get_within}
+use Rattle.std.proofs.lemmas.Option.{same_Some, slice_get-map}
 use Rattle.std.specs.List.{AllByRecursion}
 use Rattle.std.specs.Option.{option_map}
 use Rattle.tp_terms.specs.declared.ProcStatus.{ProcStatus}
@@ -13,7 +13,7 @@ use Rattle.tp_terms.specs.Term.{Name}
 use Rattle.tp_meaning.specs.World as world
 use Rattle.tp_meaning.specs.World.{World, at_place, with_status, with_process, stamped}
 use Rattle.tp_meaning.specs.Scheduler as scheduler
-use Rattle.tp_meaning.proofs.Places.{all-append, all-weaker, map-set, at_place-same, at_place-both, get-at_place}
+use Rattle.tp_meaning.proofs.Places.{all-append, map-set, at_place-same, at_place-both, get-at_place}
 use Rattle.tp_engine.specs.Plain.{Plain, items_of, process_of, processes_of, event_of, kind_of, world_of}
 use Rattle.tp_engine.specs.Stands.{ProcStands, KindStands, EventStands, PlainStands}
 use Rattle.tp_engine.specs.Acts.{noted, ran, left, begun, mark, mark_others}

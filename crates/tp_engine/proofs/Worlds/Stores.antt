@@ -1,14 +1,12 @@
 -- Contents whose places show other terms, each changed in the same way.
-use Rattle.std.proofs.Common.{◌≡◌, ℕ, ◌<◌, ◌≤◌, List, [], ◌∷◌, map, length, Option, Some, None, IfSome, refl, ap, sym, subst, ◌∙◌, arith}
+use Rattle.std.proofs.Common.{◌≡◌, ℕ, ◌<◌, ◌≤◌, List, map, length, Option, Some, None, refl, ap, sym, ◌∙◌, arith}
 use Rattle.std.specs.List.{AllByRecursion}
 use Rattle.tp_terms.specs.declared.cells.Ref.{Ref}
-use Rattle.tp_terms.specs.declared.world.ItemId.{ItemId}
-use Rattle.tp_terms.specs.declared.world.Proc.{Proc}
 use Rattle.tp_terms.specs.declared.world.Event.{Event}
 use Rattle.tp_terms.specs.declared.world.EventKind.{EventKind}
 use Rattle.tp_terms.specs.declared.world.EventKind.TheVariants as kind
 use Rattle.tp_terms.specs.Term.{Name, Term}
-use Rattle.tp_terms.specs.Shown.{shows, name_at, AreNamed}
+use Rattle.tp_terms.specs.Shown.{name_at, AreNamed}
 use Rattle.tp_meaning.specs.Subst.{apply}
 use Rattle.tp_meaning.specs.World as world
 use Rattle.tp_meaning.specs.World.{World, at_place, world_under, item_by, kind_by, event_by, process_by}
@@ -18,7 +16,7 @@ use Rattle.tp_engine.specs.declared.frames.Item.{Item}
 use Rattle.tp_engine.specs.declared.frames.Item.TheVariants.{Goal, Commit, Retry}
 use Rattle.tp_engine.specs.Lists.{items_at}
 use Rattle.tp_engine.specs.Plain.{Plain, item_of, items_of, process_of, with_running, processes_of, box_of, kind_of, event_of, world_of}
-use Rattle.tp_engine.specs.Stands.{ItemStands, ItemsStand, ListsStand, ProcStands, BoxStands, KindStands, EventStands, PlainStands}
+use Rattle.tp_engine.specs.Stands.{ItemStands, ItemsStand, ProcStands, BoxStands, KindStands, EventStands, PlainStands}
 use Rattle.tp_engine.proofs.Worlds.Items.{list_stands}
 
 -- a store with further cells, whose old places are seen as before but for a change

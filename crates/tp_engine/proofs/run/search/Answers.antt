@@ -1,4 +1,4 @@
-use Rattle.std.proofs.Common.{◌≡◌, ◌≤◌, Option, refl, sym, subst, arith}
+use Rattle.std.proofs.Common.{Option, sym, subst, arith}
 use Rattle.std.proofs.lemmas.Result.{err_from_is_err_and}
 use Rattle.tp_engine.specs.Run.{Turns, at_end, at_start}
 use Rattle.tp_engine.specs.declared.run.Ended.{Ended}

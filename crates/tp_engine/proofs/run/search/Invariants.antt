@@ -1,4 +1,4 @@
-use Rattle.std.proofs.Common.{◌≡◌, ◌≤◌, ◌-◌}
+use Rattle.std.proofs.Common.{◌≤◌, ◌-◌}
 use Rattle.tp_engine.specs.Run.{IsRun}
 use Rattle.tp_engine.proofs.run.search.Given as goal
 

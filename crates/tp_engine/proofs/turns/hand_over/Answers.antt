@@ -1,8 +1,7 @@
-use Rattle.std.proofs.Common.{◌≡◌, subst, sym}
+use Rattle.std.proofs.Common.{subst, sym}
 use Rattle.std.proofs.lemmas.Result.{IfErr-weaker}
 use Rattle.tp_engine.specs.Answers.{answer_in}
 use Rattle.tp_engine.specs.Told.{IsSound, Snapshot}
-use Rattle.tp_engine.specs.declared.answers.AnswerFault.{AnswerFault}
 use Rattle.tp_engine.proofs.Calls.{machine_sound}
 use Rattle.tp_engine.proofs.turns.hand_over.Goals as goal
 

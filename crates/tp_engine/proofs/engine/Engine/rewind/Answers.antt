@@ -1,27 +1,17 @@
 use Rattle.std.proofs.Common.{subst, sym}
+use Rattle.tp_engine.specs.Machine.{IsMachine}
 use Rattle.tp_engine.specs.Told.{Told, MayRewind}
-use Rattle.tp_engine.proofs.Calls.{may_rewind, rewound_keeps, rewound_stack, uncounted}
+use Rattle.tp_engine.proofs.Calls.{may_rewind, rewound_stack, uncounted}
 use Rattle.tp_engine.proofs.engine.Engine.rewind.Goals as goal
-
-pub rewind-found-requires : goal.rewind-found-requires
-rewind-found-requires c =
-    let e = c.self.inside in
-    (may_rewind e.machine e.number e.steps e.phase (subst (λ (t : Told). MayRewind t.phase) (sym c.self.view_is) c.requires) c.self.invariant).machine
-
-pub invariant_of-self : goal.invariant_of-self
-invariant_of-self c =
-    let e = c.self.inside in
-    let ready = may_rewind e.machine e.number e.steps e.phase (subst (λ (t : Told). MayRewind t.phase) (sym c.self.view_is) c.requires) c.self.invariant in
-    rewound_keeps e.machine e.number e.steps c.rewind-found.result c.rewind-found.new.self ready c.rewind-found.ensures.machine
 
 pub returns-clause-stack : goal.returns-clause-stack
 returns-clause-stack c =
     let e = c.self.inside in
-    let ready = may_rewind e.machine e.number e.steps e.phase (subst (λ (t : Told). MayRewind t.phase) (sym c.self.view_is) c.requires) c.self.invariant in
-    rewound_stack e.machine c.rewind-found.new.self c.rewind-found.result ready.machine c.rewind-found.ensures
+    let is : IsMachine e.machine = may_rewind e.machine e.number e.steps e.phase (subst (λ (t : Told). MayRewind t.phase) (sym c.self.view_is) c.requires) c.self.invariant in
+    rewound_stack e.machine c.rewind-found.new.self c.rewind-found.result is c.rewind-found.ensures
 
 pub returns-clause-rest : goal.returns-clause-rest
 returns-clause-rest c =
     let e = c.self.inside in
-    let ready = may_rewind e.machine e.number e.steps e.phase (subst (λ (t : Told). MayRewind t.phase) (sym c.self.view_is) c.requires) c.self.invariant in
-    uncounted c.args.self.now e.machine c.rewind-found.new.self e.phase _ e.number e.steps c.self.view_is ready.machine.program c.rewind-found.ensures.same
+    let is : IsMachine e.machine = may_rewind e.machine e.number e.steps e.phase (subst (λ (t : Told). MayRewind t.phase) (sym c.self.view_is) c.requires) c.self.invariant in
+    uncounted c.args.self.now e.machine c.rewind-found.new.self e.phase _ e.number e.steps c.self.view_is is.program c.rewind-found.ensures.same

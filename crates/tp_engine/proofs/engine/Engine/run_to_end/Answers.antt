@@ -3,8 +3,8 @@ use Rattle.tp_engine.specs.Run.{at_end}
 use Rattle.tp_engine.specs.Answers.{Took, IsCutShort}
 use Rattle.tp_engine.specs.Phases.{Keeps}
 use Rattle.tp_engine.specs.Ended.{Finds, Reaches, answers_of, outcome_of}
-use Rattle.tp_engine.specs.Told.{Told, MayRun}
-use Rattle.tp_engine.proofs.Calls.{may_run, fault_keeps, same_told, uncounted}
+use Rattle.tp_engine.specs.Told.{Told}
+use Rattle.tp_engine.proofs.Calls.{kept_program, fault_keeps, same_told, uncounted}
 use Rattle.tp_engine.proofs.engine.Engine.run_to_end.Goals as goal
 
 pub returns-in-Ok-clause-found : goal.returns-in-Ok-clause-found
@@ -24,8 +24,7 @@ returns-in-Ok-clause-took g c =
 pub returns-in-Ok-clause-same : goal.returns-in-Ok-clause-same
 returns-in-Ok-clause-same g c =
     let e = c.self.inside in
-    let fresh = may_run e.machine e.number e.steps e.phase (subst (λ (t : Told). MayRun t.phase) (sym c.self.view_is) c.requires.run) c.self.invariant c.in_default.not-Broken in
-    same_told c.args.self.now e.machine c.search.new.machine e.phase _ e.number e.steps c.self.view_is fresh.ready.machine.program c.in-Ok.ensures.same c.in-Ok.ended.found c.in-Ok.ended.steps
+    same_told c.args.self.now e.machine c.search.new.machine e.phase _ e.number e.steps c.self.view_is (kept_program e.machine e.number e.steps e.phase c.self.invariant c.in_default.not-Broken) c.in-Ok.ensures.same c.in-Ok.ended.found c.in-Ok.ended.steps
 
 pub returns-in-Err-clause-cut : goal.returns-in-Err-clause-cut
 returns-in-Err-clause-cut g c =
@@ -34,14 +33,12 @@ returns-in-Err-clause-cut g c =
 pub returns-in-Err-clause-same : goal.returns-in-Err-clause-same
 returns-in-Err-clause-same g c =
     let e = c.self.inside in
-    let fresh = may_run e.machine e.number e.steps e.phase (subst (λ (t : Told). MayRun t.phase) (sym c.self.view_is) c.requires.run) c.self.invariant c.in_default.not-Broken in
-    same_told c.args.self.now e.machine c.search.new.machine e.phase _ e.number e.steps c.self.view_is fresh.ready.machine.program c.in-Err.ensures.same e.number e.steps
+    same_told c.args.self.now e.machine c.search.new.machine e.phase _ e.number e.steps c.self.view_is (kept_program e.machine e.number e.steps e.phase c.self.invariant c.in_default.not-Broken) c.in-Err.ensures.same e.number e.steps
 
 pub returns-in-Err-clause-uncounted : goal.returns-in-Err-clause-uncounted
 returns-in-Err-clause-uncounted g c =
     let e = c.self.inside in
-    let fresh = may_run e.machine e.number e.steps e.phase (subst (λ (t : Told). MayRun t.phase) (sym c.self.view_is) c.requires.run) c.self.invariant c.in_default.not-Broken in
-    uncounted c.args.self.now e.machine c.search.new.machine e.phase _ e.number e.steps c.self.view_is fresh.ready.machine.program c.in-Err.ensures.same
+    uncounted c.args.self.now e.machine c.search.new.machine e.phase _ e.number e.steps c.self.view_is (kept_program e.machine e.number e.steps e.phase c.self.invariant c.in_default.not-Broken) c.in-Err.ensures.same
 
 pub invariant_of-self-in-Err : goal.invariant_of-self-in-Err
 invariant_of-self-in-Err g c =

@@ -1,4 +1,4 @@
-use Rattle.std.proofs.Common.{length, refl, sym, subst}
+use Rattle.std.proofs.Common.{length, sym, subst}
 use Rattle.tp_terms.specs.Shown.{AreNamed}
 use Rattle.tp_engine.specs.Heads.{EntersClause}
 use Rattle.tp_engine.proofs.HeadsMet.{head_is}

@@ -1,4 +1,4 @@
-use Rattle.std.proofs.Common.{◌≡◌, ◌<◌, ◌^◌, ◌∙◌, IfSome, sym, subst}
+use Rattle.std.proofs.Common.{◌<◌, ◌^◌, ◌∙◌, IfSome, sym, subst}
 use Rattle.tp_engine.specs.declared.machine.Machine.{Machine}
 use Rattle.tp_engine.specs.declared.machine.Alt.TheVariants.{Clause}
 use Rattle.tp_engine.specs.Goes.{KeepsWorlds, IsKept, MayKeep, untried_in}

@@ -1,7 +1,5 @@
-use Rattle.std.proofs.Common.{◌≡◌, drop}
-use Rattle.std.specs.List.{position_from}
-use Rattle.tp_engine.specs.Heads.{hits}
-use Rattle.tp_engine.specs.Meets.{clauses_of, found_from}
+use Rattle.std.proofs.Common.{◌≡◌}
+use Rattle.tp_engine.specs.Meets.{found_from}
 use Rattle.tp_engine.proofs.machine.Machine.next_match.Given as goal
 
 -- no clause so far has a unifier with the goal
