@@ -86,10 +86,7 @@ fn prepare<S: Shelf>(alloc: Global, words: &[String], shelf: &mut S) -> Result<R
         Prepared (view_of reply) (words_of words.now) (S.held shelf.old) (S.faults shelf.old) (S.faults shelf.new)) }
 {
     let Some((model, goal)) = request_of(words) else {
-        return Ok(Reply::fixed(
-            Status::Usage,
-            "usage: tprolog MODEL GOAL [options]\n",
-        ));
+        return Ok(Reply::fixed(Status::Usage, "usage: tprolog MODEL GOAL [options]\n"));
     };
     match read_all(alloc, shelf, model) {
         Ok(text) => answer(alloc, &text, goal),

@@ -5,8 +5,8 @@ ghost use Rattle.tp_clauses.specs.Model.{cause_of as cause_of_reading, refusal};
 ghost use Rattle.tp_top.specs.Expected.{cause_word as word_of, goal_refused as goal_line, model_refused as model_line};
 ghost use Rattle.tp_top.specs.Replies.{view_of};
 
-use crate::report::Reply;
 use crate::program::Status;
+use crate::report::Reply;
 use std::alloc::Global;
 use tp_clauses::Cause;
 use tp_parse::ReadCause;
