@@ -4,7 +4,6 @@ use Rattle.std.proofs.lemmas.Bool.{le-ltb, lt-ltb}
 use Rattle.std.proofs.lemmas.Str.{chars-nil}
 use Rattle.std.specs.Prelude.{nat_lt}
 use Rattle.tp_outside.specs.Files.{Files, held_under}
-use Rattle.tp_outside.specs.Taken.{added}
 use Rattle.tp_outside.specs.Text.{HoldsMore, ReadsAll}
 use Rattle.tp_terms.specs.declared.text.Named.{Named}
 use Rattle.tp_terms.specs.Term.{Name, Term}

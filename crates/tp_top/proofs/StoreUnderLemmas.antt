@@ -22,7 +22,6 @@ use Rattle.tp_meaning.proofs.Places.{map-at_place}
 use Rattle.tp_store.specs.Contents.{Contents, IsStore, seen, subst_of}
 use Rattle.tp_store.proofs.StoreLemmas.{value-bound, value-unbound}
 use Rattle.tp_parse.specs.Ops.{Entries, table_of}
-use Rattle.tp_parse.specs.Table.{Table}
 use Rattle.tp_write.specs.Text.{text}
 use Rattle.tp_write.specs.Under.{under}
 use Rattle.tp_write.proofs.UnderLemmas.{under-agrees}

@@ -1,7 +1,4 @@
-use Rattle.std.proofs.Common.{Err, ap, ◌∙◌}
-use Rattle.tp_parse.specs.Ops.{table_of}
-use Rattle.tp_engine.specs.Ended.{outcome_of}
-use Rattle.tp_top.specs.Report.{report}
+use Rattle.std.proofs.Common.{Err, ap}
 use Rattle.tp_top.proofs.RunAnswers.{if_ok, read_answered, no_body}
 use Rattle.tp_top.proofs.answer.answer_read.Goals as goal
 
