@@ -6,9 +6,6 @@ ghost use Rattle.std.specs.VecDeque.{deque_len, deque_capacity};
 ghost use Rattle.std.specs.List.Sorted.{IsPartitionPoint};
 ghost use Rattle.tp_calendar.specs.Order.{goes_before, is_beside, put_slot, without_slot, IsFree, IsOrdered};
 
-#[cfg(test)]
-mod tests;
-
 use std::alloc::Global;
 use std::collections::VecDeque;
 use std::marker::Model;

@@ -9,8 +9,6 @@ mod index;
 mod kind;
 mod load;
 mod parts;
-#[cfg(test)]
-mod tests;
 
 pub use base::{Base, ClauseId, ClauseView};
 pub use fault::{Cause, LoadFault};

@@ -3,8 +3,6 @@
 
 pub mod choices;
 pub mod frames;
-#[cfg(test)]
-mod tests;
 
 pub use choices::{Alt, Choice, Choices, Marks};
 pub use frames::{Frames, Item};

@@ -3,11 +3,9 @@ use Rattle.std.specs.Prelude.{ℕ, ◌<◌, List, length, IfSome}
 use Rattle.std.specs.List.{AllByRecursion}
 use Rattle.tp_terms.specs.declared.cells.Ref.{Ref}
 use Rattle.tp_terms.specs.declared.world.Proc.{Proc}
-use Rattle.tp_terms.specs.declared.world.Event.{Event}
-use Rattle.tp_terms.specs.declared.world.EventKind.{EventKind}
-use Rattle.tp_terms.specs.declared.world.EventKind.TheVariants as kind
 use Rattle.tp_terms.specs.Term.{Name}
 use Rattle.tp_terms.specs.Shown.{AreNamed}
+use Rattle.tp_terms.specs.Events.{EventStands}
 use Rattle.tp_store.specs.Contents.{IsStore}
 use Rattle.tp_engine.specs.declared.frames.Item.{Item}
 use Rattle.tp_engine.specs.declared.frames.Item.TheVariants.{Goal, Commit, Retry}
@@ -33,20 +31,6 @@ pub record ProcStands (names frames : ℕ) (q : Proc) : Type 0 where
 -- the messages of a box are places of so many cells
 abbrev pub BoxStands : ℕ → List Ref → Type 0
 BoxStands cells = AllByRecursion (λ r. r.at < cells)
-
--- what an event speaks of is there: of so many names, cells and processes
-abbrev pub KindStands : ℕ → ℕ → ℕ → EventKind → Type 0
-KindStands names cells procs (kind.New name start end) = name.at < names
-KindStands names cells procs kind.Start = Unit {0}
-KindStands names cells procs (kind.Hold duration) = Unit {0}
-KindStands names cells procs (kind.Send message to) = (message.at < cells) × (to < procs)
-KindStands names cells procs (kind.Take message) = message.at < cells
-KindStands names cells procs (kind.Note term) = term.at < cells
-KindStands names cells procs kind.End = Unit {0}
-
-pub record EventStands (names cells procs : ℕ) (e : Event) : Type 0 where
-  pub process : e.pid < procs
-  pub kind : KindStands names cells procs e.kind
 
 -- contents whose places are all there, and whose atoms are of a table of names
 pub record PlainStands (names : List Name) (p : Plain) : Type 0 where

@@ -23,7 +23,7 @@ use Rattle.tp_engine.specs.declared.phase.Stepped.{Stepped}
 use Rattle.tp_engine.specs.declared.phase.Stepped.TheVariants as answer
 use Rattle.tp_engine.specs.Plain.{Plain, world_of}
 use Rattle.tp_engine.specs.Program.{goal_term}
-use Rattle.tp_engine.specs.Stands.{EventStands}
+use Rattle.tp_terms.specs.Events.{EventStands}
 use Rattle.tp_engine.specs.State.{plain_of}
 use Rattle.tp_engine.specs.Machine.{base_in, open_in}
 

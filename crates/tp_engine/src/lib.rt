@@ -20,8 +20,6 @@ mod start;
 mod state;
 mod tally;
 mod task;
-#[cfg(test)]
-mod tests;
 mod turns;
 mod view;
 

@@ -3,9 +3,6 @@
 
 ghost use Rattle.std.specs.Prelude.{◌≡◌, ◌++◌, ◌∷◌, [], length, take, nat_eq, slice_get, IfOk, OnErr, OnOk};
 
-#[cfg(test)]
-mod tests;
-
 use std::alloc::Global;
 use std::marker::Model;
 use tp_terms::{Event, NoMemory};

@@ -10,8 +10,6 @@ mod layout;
 mod meaning;
 mod next;
 mod quotes;
-#[cfg(test)]
-mod tests;
 mod token;
 
 pub use chars::{

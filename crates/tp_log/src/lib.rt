@@ -3,8 +3,6 @@
 
 pub mod entry;
 pub mod log;
-#[cfg(test)]
-mod tests;
 
 pub use entry::Entry;
 pub use log::Log;

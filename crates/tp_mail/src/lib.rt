@@ -7,8 +7,6 @@ ghost use Rattle.tp_log.specs.Front.{front};
 ghost use Rattle.tp_mail.specs.Mail.{box_of, room_of, at_box, AllAtMost, Receives};
 
 mod rings;
-#[cfg(test)]
-mod tests;
 
 use std::alloc::Global;
 use std::collections::VecDeque;

@@ -16,17 +16,3 @@ pub enum DeadCause {
     /// A process would live past its end time.
     Late,
 }
-
-#[cfg(test)]
-mod tests {
-    use super::*;
-
-    #[test]
-    fn laws_can_be_called(rt: HostRuntime) {
-        laws::search_rules();
-        laws::stamps_rise();
-        laws::one_unifier();
-        laws::reserved_names();
-        assert!(rt; DeadCause::Failed != DeadCause::Late);
-    }
-}

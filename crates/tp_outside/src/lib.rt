@@ -7,8 +7,6 @@
 mod memory;
 mod reading;
 mod system;
-#[cfg(test)]
-mod tests;
 mod whole;
 mod writing;
 

@@ -12,8 +12,6 @@ mod reader;
 mod steps;
 mod stop;
 mod table;
-#[cfg(test)]
-mod tests;
 mod variables;
 mod whole;
 mod words;

@@ -5,8 +5,6 @@ ghost use Rattle.std.specs.Prelude.{◌≡◌, ℕ, ◌+◌, ◌-◌, ◌<◌, t
 ghost use Rattle.tp_log.specs.Front.{front};
 ghost use Rattle.tp_procs.specs.Processes.{is_live, is_marked, earliest, named, names_of, AreDistinct};
 
-#[cfg(test)]
-mod tests;
 mod tree;
 
 use indexmap::IndexSet;

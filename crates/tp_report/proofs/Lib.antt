@@ -3,4 +3,3 @@ pub mod EndLemmas
 pub mod SceneLemmas
 pub mod DoerLemmas
 pub mod WorldLemmas
-pub mod TestLemmas

@@ -68,17 +68,3 @@ pub record Stands (names : ℕ) (bindings : Bindings) (cells : List Cell) (proce
   pub named_cells : AreNamed names cells
   pub named_processes : AllByRecursion (λ a. a.at < names) processes
   pub fits : Fits bindings cells
-
--- what an event speaks of is there: of so many names, cells and processes
-abbrev pub KindStands : ℕ → ℕ → ℕ → EventKind → Type 0
-KindStands names cells processes (kind.New name start end) = name.at < names
-KindStands names cells processes kind.Start = Unit {0}
-KindStands names cells processes (kind.Hold duration) = Unit {0}
-KindStands names cells processes (kind.Send message to) = (message.at < cells) × (to < processes)
-KindStands names cells processes (kind.Take message) = message.at < cells
-KindStands names cells processes (kind.Note term) = term.at < cells
-KindStands names cells processes kind.End = Unit {0}
-
-pub record EventStands (names cells processes : ℕ) (e : Event) : Type 0 where
-  pub process : e.pid < processes
-  pub kind : KindStands names cells processes e.kind

@@ -8,7 +8,8 @@ ghost use Rattle.tp_meaning.specs.World.{World};
 ghost use Rattle.tp_parse.specs.Ops.{table_of};
 ghost use Rattle.tp_report.specs.Added.{AddsPrefix};
 ghost use Rattle.tp_report.specs.Report.{number_line, clock_line, answer_lines, world_answer_text};
-ghost use Rattle.tp_report.specs.Seen.{answer_under, EventStands};
+ghost use Rattle.tp_terms.specs.Events.{EventStands};
+ghost use Rattle.tp_report.specs.Seen.{answer_under};
 ghost use Rattle.tp_report.specs.Worlds.{StandsFor};
 
 use crate::pieces::{Piece, add_pieces};

@@ -6,8 +6,6 @@ mod doer;
 mod end;
 mod pieces;
 mod scene;
-#[cfg(test)]
-mod tests;
 
 pub use answer::answer_text;
 pub use end::{EndLine, end_text};

@@ -10,7 +10,8 @@ ghost use Rattle.tp_write.specs.Under.{under};
 ghost use Rattle.tp_report.specs.Added.{AddsPrefix, joined_text};
 ghost use Rattle.tp_report.specs.Pieces.{piece_text};
 ghost use Rattle.tp_report.specs.Report.{doer_text, limit_text, kind_text, event_line, variable_line};
-ghost use Rattle.tp_report.specs.Seen.{Stands, KindStands, EventStands, value_under, variable_seen, kind_seen, event_seen, process_names};
+ghost use Rattle.tp_terms.specs.Events.{KindStands, EventStands};
+ghost use Rattle.tp_report.specs.Seen.{Stands, value_under, variable_seen, kind_seen, event_seen, process_names};
 
 use crate::pieces::{Piece, add_pieces, add_text};
 use std::alloc::Global;

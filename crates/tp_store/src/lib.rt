@@ -7,7 +7,5 @@ mod copy;
 mod pairs;
 mod solve;
 pub mod store;
-#[cfg(test)]
-mod tests;
 
 pub use store::Store;

@@ -6,3 +6,4 @@ pub mod StartNames
 pub mod Names
 pub mod Binds
 pub mod Added
+pub mod Events

@@ -5,8 +5,6 @@ pub mod atoms;
 pub mod binds;
 pub mod cells;
 pub mod symbols;
-#[cfg(test)]
-mod tests;
 pub mod text;
 pub mod world;
 

@@ -25,13 +25,12 @@ use Rattle.tp_parse.specs.Ops.{Entries, table_of}
 use Rattle.tp_write.specs.Text.{text}
 use Rattle.tp_write.specs.Under.{under}
 use Rattle.tp_write.proofs.UnderLemmas.{under-agrees}
+use Rattle.tp_terms.specs.Events.{EventStands}
 use Rattle.tp_report.specs.Report.{world_answer_text}
-use Rattle.tp_report.specs.Seen as report
 use Rattle.tp_report.specs.Seen.{kind_seen, event_seen, process_names}
 use Rattle.tp_report.specs.Worlds.{StandsFor}
 use Rattle.tp_engine.specs.Answers.{answer_in}
 use Rattle.tp_engine.specs.Plain.{Plain, event_of, items_of, kind_of, process_of, with_running}
-use Rattle.tp_engine.specs.Stands as engine
 use Rattle.tp_engine.specs.Told.{Snapshot, IsSound, world_in, seen_in}
 use Rattle.tp_top.specs.Told.{shown}
 
@@ -84,27 +83,14 @@ processes-named s table processes sound t same =
 
 -- ---- what a report needs
 
-kind-stands : (names cells processes : ℕ) (k : EventKind) → engine.KindStands names cells processes k → report.KindStands names cells processes k
-kind-stands names cells processes (kind.New name start end) h = h
-kind-stands names cells processes kind.Start h = h
-kind-stands names cells processes (kind.Hold duration) h = h
-kind-stands names cells processes (kind.Send message to) h = h
-kind-stands names cells processes (kind.Take message) h = h
-kind-stands names cells processes (kind.Note term) h = h
-kind-stands names cells processes kind.End h = h
-
-all-stand : (names cells processes : ℕ) (es : List Event) → AllByRecursion (engine.EventStands names cells processes) es → AllByRecursion (report.EventStands names cells processes) es
-all-stand names cells processes [] h = tt
-all-stand names cells processes (e ∷ es) h = (record { process = h.0.process; kind = kind-stands names cells processes e.kind h.0.kind }, all-stand names cells processes es h.1)
-
-pub events-stand : (s : Snapshot) (table : List Name) (cells : List Cell) (processes : List AtomId) (events : List Event) → IsSound s → table ≡ s.names → cells ≡ s.plain.store.cells → AreProcesses s processes → events ≡ s.plain.events → AllByRecursion (report.EventStands (length table) (length cells) (length processes)) events
+pub events-stand : (s : Snapshot) (table : List Name) (cells : List Cell) (processes : List AtomId) (events : List Event) → IsSound s → table ≡ s.names → cells ≡ s.plain.store.cells → AreProcesses s processes → events ≡ s.plain.events → AllByRecursion (EventStands (length table) (length cells) (length processes)) events
 events-stand s table cells processes events sound t ce same ev =
     let many : length s.plain.procs ≡ length processes = sym (ap length same ∙ length-map s.plain.procs (λ (q : Proc). q.name)) in
-    subst (λ n. AllByRecursion (report.EventStands n (length cells) (length processes)) events) (ap length (sym t))
-    (subst (λ n. AllByRecursion (report.EventStands (length s.names) n (length processes)) events) (ap length (sym ce))
-    (subst (λ n. AllByRecursion (report.EventStands (length s.names) (length s.plain.store.cells) n) events) many
-    (subst (AllByRecursion (report.EventStands (length s.names) (length s.plain.store.cells) (length s.plain.procs))) (sym ev)
-    (all-stand (length s.names) (length s.plain.store.cells) (length s.plain.procs) s.plain.events sound.events))))
+    subst (λ n. AllByRecursion (EventStands n (length cells) (length processes)) events) (ap length (sym t))
+    (subst (λ n. AllByRecursion (EventStands (length s.names) n (length processes)) events) (ap length (sym ce))
+    (subst (λ n. AllByRecursion (EventStands (length s.names) (length s.plain.store.cells) n) events) many
+    (subst (AllByRecursion (EventStands (length s.names) (length s.plain.store.cells) (length s.plain.procs))) (sym ev)
+    sound.events)))
 
 -- the world of an engine is what its cells and bindings stand for
 pub stands-for : (s : Snapshot) (processes : List AtomId) → IsSound s → AreProcesses s processes → StandsFor s.names s.plain.store.pairs s.plain.store.cells processes s.plain.events s.plain.clock (world_in s)

@@ -6,8 +6,6 @@ mod form;
 pub mod laws;
 mod names;
 mod pieces;
-#[cfg(test)]
-mod tests;
 mod write;
 
 pub use names::write_name;

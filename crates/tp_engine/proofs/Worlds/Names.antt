@@ -30,7 +30,8 @@ use Rattle.tp_engine.specs.declared.machine.Choice.{Choice}
 use Rattle.tp_engine.specs.Heads.{unifier}
 use Rattle.tp_engine.specs.Lists.{items_at}
 use Rattle.tp_engine.specs.Plain.{Plain, item_of, items_of, process_of, with_running, processes_of, box_of, kind_of, event_of, world_of}
-use Rattle.tp_engine.specs.Stands.{ProcStands, KindStands, EventStands, PlainStands}
+use Rattle.tp_terms.specs.Events.{KindStands, EventStands}
+use Rattle.tp_engine.specs.Stands.{ProcStands, PlainStands}
 use Rattle.tp_engine.specs.State.{plain_of}
 use Rattle.tp_engine.specs.Machine.{GoesOn, ChoiceFits, open_at, choice_of, choices_of}
 

@@ -15,7 +15,8 @@ use Rattle.tp_meaning.specs.World.{World, at_place, with_status, with_process, s
 use Rattle.tp_meaning.specs.Scheduler as scheduler
 use Rattle.tp_meaning.proofs.Places.{all-append, map-set, at_place-same, at_place-both, get-at_place}
 use Rattle.tp_engine.specs.Plain.{Plain, items_of, process_of, processes_of, event_of, kind_of, world_of}
-use Rattle.tp_engine.specs.Stands.{ProcStands, KindStands, EventStands, PlainStands}
+use Rattle.tp_terms.specs.Events.{KindStands, EventStands}
+use Rattle.tp_engine.specs.Stands.{ProcStands, PlainStands}
 use Rattle.tp_engine.specs.Acts.{noted, ran, left, begun, mark, mark_others}
 
 -- ---- lists with one element replaced

@@ -16,7 +16,8 @@ use Rattle.tp_engine.specs.declared.frames.Item.{Item}
 use Rattle.tp_engine.specs.declared.frames.Item.TheVariants.{Goal, Commit, Retry}
 use Rattle.tp_engine.specs.Lists.{items_at}
 use Rattle.tp_engine.specs.Plain.{Plain, item_of, items_of, process_of, with_running, processes_of, box_of, kind_of, event_of, world_of}
-use Rattle.tp_engine.specs.Stands.{ItemStands, ItemsStand, ProcStands, BoxStands, KindStands, EventStands, PlainStands}
+use Rattle.tp_terms.specs.Events.{KindStands, EventStands}
+use Rattle.tp_engine.specs.Stands.{ItemStands, ItemsStand, ProcStands, BoxStands, PlainStands}
 use Rattle.tp_engine.proofs.Worlds.Items.{list_stands}
 
 -- a store with further cells, whose old places are seen as before but for a change

@@ -1,0 +1,52 @@
+//! Each public call once, on a model from outside. The refusals are cases of the program.
+
+use std::test::Fail;
+use tp_clauses::{Base, Cause, ClauseId, LoadFault};
+use tp_terms::symbols::CALL;
+use tp_terms::{AtomId, Atoms, Cell};
+
+/// Whether the first and the third clause are those of `p` with one argument, and the second is
+/// that of `q`.
+fn lists(base: &Base, p: AtomId, q: AtomId) -> bool {
+    base.clauses(p, 1) == Some([ClauseId { at: 0 }, ClauseId { at: 2 }].as_slice())
+        && base.clauses(q, 0) == Some([ClauseId { at: 1 }].as_slice())
+        && base.clauses(p, 2).is_none()
+        && base.count() == 3
+}
+
+/// The number of variables of the third clause, and the name of the first goal of its body.
+fn third_clause(base: &Base) -> Option<(u64, AtomId)> {
+    if base.count() < 3 {
+        return None;
+    }
+    let view = base.clause(ClauseId { at: 2 });
+    let body = view.body?;
+    let Cell::Comp { first, .. } = base.cells().get(body) else {
+        return None;
+    };
+    match base.cells().get(first) {
+        Cell::Comp { name, .. } => Some((view.vars, name)),
+        _ => None,
+    }
+}
+
+#[test]
+fn clauses_of_a_model(rt: HostRuntime) -> Result<(), Fail> {
+    let mut atoms = Atoms::start(rt.alloc())?;
+    let base = Base::load(rt.alloc(), b"p(1). q. p(X) :- X, q.", &mut atoms)?;
+    let (p, q) = (atoms.intern("p")?, atoms.intern("q")?);
+    assert!(rt; lists(&base, p, q));
+    assert!(rt; base.ops().infix("is").is_some());
+
+    // the variable that stands as a goal is called
+    assert_eq!(rt; third_clause(&base), Some((1, CALL)));
+
+    let refused = LoadFault::Refused {
+        clause: 2,
+        byte: 3,
+        cause: Cause::Builtin,
+    };
+    let again = Base::load(rt.alloc(), b"p. call(a,b,c,d,e,f,g,h) :- 1.", &mut atoms);
+    assert_eq!(rt; again.err(), Some(refused));
+    Ok(())
+}

@@ -1,0 +1,68 @@
+//! Each public call once, on values from outside.
+
+use std::alloc::Global;
+use std::test::Fail;
+use tp_store::Store;
+use tp_terms::{AtomId, Binds, Cell, Cells, NoMemory, Ref};
+
+// The places of `a`, `b` and `f` in some table of names.
+const A: AtomId = AtomId { at: 0 };
+
+const B: AtomId = AtomId { at: 1 };
+
+const F: AtomId = AtomId { at: 2 };
+
+/// Whether `f(X, b)` and `f(a, Y)` are made equal by `a` for `X` and `b` for `Y`.
+fn makes_equal(alloc: Global) -> Result<bool, NoMemory> {
+    let mut head = Cells::new(alloc);
+    let first = head.push(Cell::Var(0))?;
+    head.push(Cell::Atom(B))?;
+    let root = head.push(Cell::Comp {
+        name: F,
+        first,
+        count: 2,
+    })?;
+    let mut store = Store::new(alloc);
+    let base = store.claim(2)?;
+    let x = store.place(Cell::Var(0))?;
+    let a = store.place(Cell::Atom(A))?;
+    let y = store.place(Cell::Var(1))?;
+    let right = store.place(Cell::Comp {
+        name: F,
+        first: a,
+        count: 2,
+    })?;
+    let left = store.instance(&head, root, 0)?;
+    let equal = store.unify(left, right)?;
+    Ok(base == 0 && equal && store.top(x) == Cell::Atom(A) && store.top(y) == Cell::Atom(B))
+}
+
+/// Whether a question binds nothing, and a copy is apart.
+fn copies(alloc: Global) -> Result<bool, NoMemory> {
+    let mut store = Store::new(alloc);
+    let x = store.fresh()?;
+    let a = store.place(Cell::Atom(A))?;
+    let asked = store.unifiable(x, a)?;
+    let copy = store.copy_all()?;
+    let equal = store.unify(x, a)?;
+    Ok(asked && equal && copy.bound(0) == None && store.bound(0) == Some(a))
+}
+
+/// Whether the body of a variable calls it, and is taken back.
+fn goes_back(alloc: Global) -> Result<bool, NoMemory> {
+    let mut store = Store::new(alloc);
+    let mark = store.mark();
+    let x = store.fresh()?;
+    let body = store.body(x)?;
+    let count = store.cells().len();
+    store.back_to(mark);
+    Ok(body == Some(Ref { at: 1 }) && count == 2 && store.mark() == mark)
+}
+
+#[test]
+fn each_call_once(rt: HostRuntime) -> Result<(), Fail> {
+    assert!(rt; makes_equal(rt.alloc())?);
+    assert!(rt; copies(rt.alloc())?);
+    assert!(rt; goes_back(rt.alloc())?);
+    Ok(())
+}

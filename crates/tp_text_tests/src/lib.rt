@@ -1,0 +1,15 @@
+//! The tests of the crates that read and write text: each public function once, on values from
+//! outside. They stand in a crate of their own, so that no crate is proved twice.
+
+#[cfg(test)]
+mod lex;
+#[cfg(test)]
+mod outside;
+#[cfg(test)]
+mod parse;
+#[cfg(test)]
+mod report;
+#[cfg(test)]
+mod terms;
+#[cfg(test)]
+mod write;
