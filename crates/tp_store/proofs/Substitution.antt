@@ -1,3 +1,4 @@
 -- The substitution that chained bindings stand for, and what keeps it.
 pub mod Chained
 pub mod Kept
+pub mod Taken

@@ -3,3 +3,4 @@ pub mod Chain
 pub mod Work
 pub mod Copy
 pub mod Bodies
+pub mod Logged

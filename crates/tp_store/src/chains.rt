@@ -5,6 +5,8 @@ ghost use Rattle.tp_terms.specs.Term.{Name};
 ghost use Rattle.tp_terms.specs.Shown.{StandsBefore, shown_from, shows};
 ghost use Rattle.tp_store.specs.Contents.{Contents, IsStore, Adds, CanGoBack, IsNumbered, IsUnbound, cut_to_mark, with_cell, with_vars, with_pair, seen, seen_cell};
 ghost use Rattle.tp_store.specs.Chain.{IsChains, IsEnd, LeadsOn, contents_of};
+ghost use Rattle.tp_store.specs.Logged.{IsBound, unbound, without_pair};
+ghost use Rattle.std.specs.List.{remove};
 
 use std::alloc::Global;
 use tp_terms::{Cell, Cells, NoMemory, Ref, StoreMark};
@@ -38,6 +40,20 @@ fn copy_cells(alloc: Global, cells: &Cells) -> Result<Cells, NoMemory>
         copy.push(cells.get(Ref { at }))?;
     }
     Ok(copy)
+}
+
+/// The place of the newest pair of a bound variable.
+fn newest_of(pairs: &[(u64, Ref)], number: u64) -> usize
+    requires { IsBound (reverse pairs.now) number }
+    ensures within { result < length pairs.now }
+    ensures removed { reverse (remove pairs.now result) ≡ without_pair number
+        (reverse pairs.now) }
+{
+    let mut at = pairs.len() - 1;
+    'search: while pairs[at].0 != number {
+        at -= 1;
+    }
+    at
 }
 
 impl Chains {
@@ -167,6 +183,18 @@ impl Chains {
                 self.bound[newest.0 as usize] = None;
             }
         }
+    }
+
+    /// Takes the binding of a variable back. The newest one takes the least time.
+    pub fn undo_bind(&mut self, number: u64)
+        requires chains { IsChains self.old }
+        requires bound { IsBound (contents_of self.old).pairs number }
+        ensures chains { IsChains self.new }
+        ensures value { contents_of self.new ≡ unbound number (contents_of self.old) }
+    {
+        let at = newest_of(&self.pairs, number);
+        self.pairs.remove(at);
+        self.bound[number as usize] = None;
     }
 
     /// Cuts cells and variable numbers to a mark. The bindings stay.

@@ -4,6 +4,7 @@
 mod body;
 mod chains;
 mod copy;
+mod logged;
 mod pairs;
 mod solve;
 pub mod store;

@@ -10,14 +10,17 @@ ghost use Rattle.tp_meaning.specs.Clauses.{renamed};
 ghost use Rattle.tp_meaning.specs.Subst.{mgu};
 ghost use Rattle.tp_store.specs.Contents.{AddsCells, AddsPairs, IsStore, Names, IsNumbered, IsUnbound, CanGoBack, FindsUnifier, IsUnifiable, Keeps, cut_to_mark, with_cell, with_vars, seen, seen_cell, subst_of};
 ghost use Rattle.tp_store.specs.Copy.{IsClaimed, IsLast, NamesBoth, ShowsCopy};
+ghost use Rattle.tp_store.specs.Logged.{FindsHead, IsBound, KeepsTerms, Logs, LogsHead, unbound};
 ghost use Rattle.tp_store.specs.Bodies.{AsksMemory, FindsBody, IsWithin, KeepsNames, KeepsOwn};
 
 use crate::body::body_of;
 use crate::chains::Chains;
 use crate::copy::instance;
+use crate::logged::unify_logged;
 use crate::solve::{unifiable, unify};
 use std::alloc::Global;
 use std::marker::Model;
+use tp_log::Log;
 use tp_terms::symbols::CALL;
 use tp_terms::{Binds, Cell, Cells, NoMemory, Ref, StoreMark};
 
@@ -152,6 +155,34 @@ impl Store {
     {
         let alloc = *self.chains.pairs.allocator();
         unify(&mut self.chains, alloc, left, right)
+    }
+
+    /// Makes the terms of two places equal, as `unify` does, and adds an entry to the log for each
+    /// binding, the oldest first. False exactly where there is no unifier; then nothing is bound or
+    /// logged.
+    ///
+    /// Answers `NoMemory` where the memory for it isn't had, and then nothing is bound or logged.
+    pub fn unify_logged(&mut self, left: Ref, right: Ref, log: &mut Log) -> Result<bool, NoMemory>
+        requires left { left.at < length self.old.cells }
+        requires right { right.at < length self.old.cells }
+        ensures found { IfOk result (FindsUnifier self.old self.new left right) }
+        ensures logged { Logs self.old self.new log.old log.new }
+        ensures unchanged { result ≢ Ok true → self.new ≡ self.old }
+        ensures log_stays { result ≢ Ok true → log.new ≡ log.old }
+        ensures store { IsStore self.new }
+    {
+        let alloc = *self.chains.pairs.allocator();
+        unify_logged(&mut self.chains, alloc, left, right, log)
+    }
+
+    /// Takes the newest binding of a bound variable back; all else stays. Takes no memory. The
+    /// newest binding of all takes the least time.
+    pub fn undo_bind(&mut self, number: u64)
+        requires { IsBound self.old.pairs number }
+        ensures value { self.new ≡ unbound number self.old }
+        ensures store { IsStore self.new }
+    {
+        self.chains.undo_bind(number);
     }
 
     /// What `unify` would answer. Nothing is bound.

@@ -1,0 +1,3 @@
+-- Bindings with a log: the entries of further pairs, and the pair that is taken back.
+pub mod Entries
+pub mod Search

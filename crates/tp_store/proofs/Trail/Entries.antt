@@ -1,0 +1,63 @@
+-- The entries of further bindings in a log.
+use Rattle.std.proofs.Common.{◌≡◌, ℕ, ◌+◌, ◌<◌, ◌≤◌, List, [], ◌∷◌, ◌++◌, length, take, drop, map, reverse, get_or, ap, sym, ◌∙◌, arith, length-append}
+use Rattle.std.proofs.lemmas.List.{take_more, take-append-le, drop-append-le, length-take, reverse-append, reverse-reverse, map-append, append_assoc, append-nil}
+use Rattle.std.proofs.Math.Seq.{take-append_seam, drop-append_seam}
+use Rattle.tp_terms.specs.declared.cells.Ref.{Ref}
+use Rattle.tp_terms.specs.Binds.{Bindings}
+use Rattle.tp_log.specs.declared.entry.Entry.{Entry}
+use Rattle.tp_log.specs.declared.entry.Entry.TheVariants.{Bind}
+use Rattle.tp_store.specs.declared.chains.Chains.{Chains}
+use Rattle.tp_store.specs.Contents.{Contents, AddsPairs}
+use Rattle.tp_store.specs.Chain.{contents_of}
+use Rattle.tp_store.specs.Logged.{Logs}
+
+-- the entries of some pairs, in their order
+abbrev pub entries_of : List (ℕ × Ref) → List Entry
+entries_of = map (λ p. Bind p.0)
+
+-- an entry taken away that stands above the mark
+pub popped : (kept : ℕ) (old new : List Entry) (e : Entry) → old ≡ new ++ e ∷ [] → kept < length old → take kept new ≡ take kept old
+popped kept old new e split above =
+    sym (take-append-le kept new (e ∷ []) (omega (arith, ap length split, length-append new (e ∷ [])))) ∙ ap (take kept) (sym split)
+
+-- one more pair has its entry
+pub pushed : (kept at : ℕ) (pairs : List (ℕ × Ref)) (p : ℕ × Ref) (before log new : List Entry) → kept ≤ at → at < length pairs → get_or pairs at p ≡ p
+    → log ≡ before ++ entries_of (drop kept (take at pairs)) → new ≡ log ++ Bind p.0 ∷ [] → new ≡ before ++ entries_of (drop kept (take (at + 1) pairs))
+pushed kept at pairs p before log new le lt here so_far more =
+    more ∙ ap (λ l. l ++ Bind p.0 ∷ []) so_far
+    ∙ append_assoc before (entries_of (drop kept (take at pairs))) (Bind p.0 ∷ [])
+    ∙ ap (λ l. before ++ l) (sym (map-append (λ q. Bind q.0) (drop kept (take at pairs)) (p ∷ [])))
+    ∙ ap (λ l. before ++ entries_of l) (sym (drop-append-le kept (take at pairs) (p ∷ []) (omega (arith, length-take at pairs))))
+    ∙ ap (λ l. before ++ entries_of (drop kept (take at pairs ++ l ∷ []))) (sym here)
+    ∙ ap (λ l. before ++ entries_of (drop kept l)) (sym (take_more pairs at p lt))
+
+-- what stood in the log stands
+pub before_stays : (before more log : List Entry) → log ≡ before ++ more → take (length before) log ≡ before
+before_stays before more log e = ap (take (length before)) e ∙ take-append_seam before more
+
+-- the pairs behind those of before are the further ones
+pub drop_pairs : (old now : List (ℕ × Ref)) (more : Bindings) → reverse now ≡ more ++ reverse old → drop (length old) now ≡ reverse more
+drop_pairs old now more e =
+    let all : now ≡ old ++ reverse more = sym (reverse-reverse now) ∙ ap reverse e ∙ reverse-append more (reverse old) ∙ ap (λ l. l ++ reverse more) (reverse-reverse old) in
+    ap (drop (length old)) all ∙ drop-append_seam old (reverse more)
+
+-- the entries of the pairs from those of before on are those of the further pairs
+pub logs_of : (old now : Chains) (kept : ℕ) (before after : List Entry) → AddsPairs (contents_of old) (contents_of now) → kept ≡ length old.pairs.items
+    → after ≡ before ++ entries_of (drop kept now.pairs.items) → Logs (contents_of old) (contents_of now) before after
+logs_of old now kept before after a k e = record {
+  more = a.more;
+  pairs = a.pairs;
+  cells = a.cells;
+  vars = a.vars;
+  log = e ∙ ap (λ n. before ++ entries_of (drop n now.pairs.items)) k ∙ ap (λ l. before ++ entries_of l) (drop_pairs old.pairs.items now.pairs.items a.more a.pairs);
+}
+
+-- nothing is bound or logged
+pub logs_none : (old new : Contents) (before after : List Entry) → new ≡ old → after ≡ before → Logs old new before after
+logs_none old new before after e l = record {
+  more = [];
+  pairs = ap (λ (x : Contents). x.pairs) e;
+  cells = ap (λ (x : Contents). x.cells) e;
+  vars = ap (λ (x : Contents). x.vars) e;
+  log = l ∙ sym (append-nil before);
+}
