@@ -1,6 +1,7 @@
 -- What follows from the facts that hold of every store.
 use Rattle.std.proofs.Common.{◌≡◌, ℕ, zero, suc, ◌+◌, ◌<◌, ◌≤◌, List, [], ◌∷◌, ◌++◌, length, take, Some, None, slice_get, get_or, refl, ap, sym, subst, ◌∙◌, arith, length-append}
 use Rattle.std.proofs.lemmas.Option.{slice_get-get_or}
+use Rattle.std.proofs.lemmas.List.{length-take}
 use Rattle.std.proofs.Math.Seq.{take-append_seam}
 use Rattle.tp_terms.specs.declared.cells.Cell.{Cell}
 use Rattle.tp_terms.specs.declared.cells.Cell.TheVariants as cell
@@ -17,6 +18,7 @@ use Rattle.tp_meaning.proofs.Unify.{unbound}
 use Rattle.tp_meaning.proofs.Under.{Bound, apply-below, extended-below}
 use Rattle.tp_store.specs.Contents.{Contents, chained, subst_of, seen, AreChained, IsStore, CanGoBack, cut_to_mark}
 use Rattle.tp_store.proofs.Substitution.Chained.{IsSubst-chained, unnamed, named, unclaimed}
+use Rattle.tp_store.proofs.Substitution.Kept.{slice_get-take}
 
 pub IsSubst-store : (names : List Name) (c : Contents) → IsStore c → IsSubst (subst_of names c)
 IsSubst-store names c s = IsSubst-chained names c.cells c.vars c.pairs (s.chain names)
@@ -106,3 +108,13 @@ module _ (old now : Contents) (mark : StoreMark) (more : List Cell) (s : IsStore
       ∙ ap (λ cs. record { cells = cs; pairs = now.pairs; vars = mark.vars }) (take-append_seam old.cells more)
       ∙ ap (λ ps. record { cells = old.cells; pairs = ps; vars = mark.vars }) pairs
       ∙ ap (λ n. record { cells = old.cells; pairs = old.pairs; vars = n }) vars_marked
+
+-- A store can go back to a mark of no more than it has, where what is left by that is a store.
+pub can-go-back : (c : Contents) (mark : StoreMark) → mark.cells ≤ length c.cells → mark.vars ≤ c.vars → IsStore (cut_to_mark c mark) → CanGoBack c mark
+can-go-back c mark cells vars s = record {
+  cells = cells;
+  vars = vars;
+  numbers = λ v le. unbound_above (cut_to_mark c mark) v s le;
+  places = λ v place e. let w = bound_within (cut_to_mark c mark) v place s e in let l = w.1 in omega (arith, length-take mark.cells c.cells);
+  variables = λ at v lt e. s.numbered at v (slice_get-take mark.cells c.cells at lt ∙ e);
+}

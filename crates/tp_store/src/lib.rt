@@ -4,6 +4,7 @@
 mod body;
 mod chains;
 mod copy;
+mod head;
 mod logged;
 mod pairs;
 mod solve;

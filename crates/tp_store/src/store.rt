@@ -16,6 +16,7 @@ ghost use Rattle.tp_store.specs.Bodies.{AsksMemory, FindsBody, IsWithin, KeepsNa
 use crate::body::body_of;
 use crate::chains::Chains;
 use crate::copy::instance;
+use crate::head::unify_head;
 use crate::logged::unify_logged;
 use crate::solve::{unifiable, unify};
 use std::alloc::Global;
@@ -173,6 +174,37 @@ impl Store {
     {
         let alloc = *self.chains.pairs.allocator();
         unify_logged(&mut self.chains, alloc, left, right, log)
+    }
+
+    /// Makes the term of `goal` equal to that of `head` in `from`, whose variable `k` is number
+    /// `base + k`, and adds an entry to the log for each binding, the oldest first: the most
+    /// general unifier over the substitution so far, with occurs check. The condition `claimed` is
+    /// that these numbers were claimed. No place that stood shows another term afterwards. False
+    /// exactly where there is no unifier; then nothing is bound, added or logged.
+    ///
+    /// Answers `NoMemory` where the memory for it isn't had, and then nothing is bound, added or
+    /// logged.
+    pub fn unify_head(
+        &mut self,
+        goal: Ref,
+        from: &Cells,
+        head: Ref,
+        base: u64,
+        log: &mut Log,
+    ) -> Result<bool, NoMemory>
+        requires goal { goal.at < length self.old.cells }
+        requires head { head.at < length from.now.items }
+        requires claimed { IsClaimed from.now.items head.at base self.old.vars }
+        ensures found { IfOk result
+            (FindsHead self.old self.new goal from.now.items head base) }
+        ensures logged { LogsHead self.old self.new log.old log.new }
+        ensures unchanged { result ≢ Ok true → self.new ≡ self.old }
+        ensures log_stays { result ≢ Ok true → log.new ≡ log.old }
+        ensures terms { OnOk result (KeepsTerms self.old.cells self.new.cells) }
+        ensures named { OnOk result (NamesBoth from.now.items self.old.cells self.new.cells) }
+        ensures store { IsStore self.new }
+    {
+        unify_head(&mut self.chains, goal, from, head, base, log)
     }
 
     /// Takes the newest binding of a bound variable back; all else stays. Takes no memory. The

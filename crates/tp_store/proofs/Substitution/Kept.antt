@@ -101,7 +101,8 @@ IsStore-unpair c v place s = record { built = s.built; chain = λ names. (s.chai
 
 -- ---- cells and variables cut to a mark
 
-slice_get-take : {X : Type 0} (n : ℕ) (xs : List X) (i : ℕ) → i < n → slice_get (take n xs) i ≡ slice_get xs i
+-- an element before the cut stays
+pub slice_get-take : {X : Type 0} (n : ℕ) (xs : List X) (i : ℕ) → i < n → slice_get (take n xs) i ≡ slice_get xs i
 slice_get-take zero xs i lt = absurd (omega arith)
 slice_get-take (suc n) [] i lt = refl
 slice_get-take (suc n) (x ∷ xs) zero lt = refl
