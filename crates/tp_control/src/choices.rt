@@ -5,7 +5,7 @@ ghost use Rattle.tp_control.specs.Stamps.{newest, is_before, StampsRise};
 
 use std::alloc::Global;
 use std::marker::Model;
-use tp_terms::{NoMemory, StoreMark};
+use tp_terms::{ItemId, NoMemory, StoreMark};
 
 /// How much there was of each part of a world when a choice was made, and its numbers.
 #[derive(Clone, Copy, Debug, PartialEq, Eq)]
@@ -24,6 +24,8 @@ pub struct Marks {
     pub insertion: u64,
     /// The number of the running process, if one runs.
     pub running: Option<usize>,
+    /// The first of the items of the running process, if it has any.
+    pub first: Option<ItemId>,
 }
 
 /// What of a choice is tried next.

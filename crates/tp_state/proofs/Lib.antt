@@ -1,0 +1,3 @@
+pub mod GoingBack
+pub mod Changes
+pub mod Marked

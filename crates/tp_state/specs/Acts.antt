@@ -1,0 +1,97 @@
+-- What acts do to plain contents.
+use Rattle.std.specs.Prelude.{◌≡◌, ℕ, List, [], ◌∷◌, ◌++◌, length, map, Option, Some, None, Bool, true, false, slice_set, zero, suc, ℤ, int_lt, ◌&&◌, if◌then◌else◌}
+use Rattle.tp_terms.specs.declared.Limit.TheVariants.{At, Inf}
+use Rattle.tp_terms.specs.declared.ProcStatus.{ProcStatus}
+use Rattle.tp_terms.specs.declared.ProcStatus.TheVariants.{Scheduled, Running, Parked, AwaitsMail, Ended}
+use Rattle.tp_terms.specs.declared.cells.Ref.{Ref}
+use Rattle.tp_terms.specs.declared.world.ItemId.{ItemId}
+use Rattle.tp_terms.specs.declared.world.Proc.{Proc}
+use Rattle.tp_terms.specs.declared.world.Slot.{Slot}
+use Rattle.tp_terms.specs.declared.world.EventKind.{EventKind}
+use Rattle.tp_terms.specs.declared.world.EventKind.TheVariants as event
+use Rattle.tp_control.specs.declared.frames.Item.{Item}
+use Rattle.tp_control.specs.declared.frames.Item.TheVariants.{Goal}
+use Rattle.tp_control.specs.Lists.{items_at}
+use Rattle.tp_procs.specs.Processes.{is_live}
+use Rattle.tp_state.specs.Plain.{Plain}
+
+-- the running process has other items, one item more, or the body of a clause more, where there is one
+abbrev pub resting : Option ItemId → Plain → Plain
+resting rest p = record p { items = rest }
+
+abbrev pub pushed : Item → Plain → Plain
+pushed item p = record p {
+  frames = p.frames ++ (item ∷ items_at p.frames p.items) ∷ [];
+  items = Some (record { at = length p.frames });
+}
+
+abbrev pub bodied : Option Ref → ℕ → Plain → Plain
+bodied None barrier p = p
+bodied (Some goal) barrier p = pushed (Goal goal barrier) p
+
+-- an event that a process makes now
+abbrev pub noted : ℕ → EventKind → Plain → Plain
+noted pid kind p = record p { events = p.events ++ record { time = p.clock; pid = pid; kind = kind } ∷ [] }
+
+-- a process has become this one
+abbrev pub changed : ℕ → Proc → Plain → Plain
+changed pid q p = record p { procs = slice_set p.procs pid q }
+
+-- a process, which is as given, runs
+abbrev pub ran : ℕ → Proc → Plain → Plain
+ran pid q p = record p {
+  procs = slice_set p.procs pid (record q { status = Running });
+  running = Some pid;
+  items = q.items;
+}
+
+-- the running process, which is as given, goes on later, with this status
+abbrev pub left : ℕ → Proc → ProcStatus → Plain → Plain
+left pid q status p = record p {
+  procs = slice_set p.procs pid (record q { status = status; items = p.items });
+  running = None;
+  items = None;
+}
+
+-- a process, which is as given, has started
+abbrev pub begun : ℕ → Proc → Plain → Plain
+begun pid q p = record p { procs = slice_set p.procs pid (record q { started = true }) }
+
+-- a process, which is as given, has started now, where it hadn't
+abbrev pub opened : ℕ → Proc → Plain → Plain
+opened pid q p = if q.started then p else begun pid q (noted pid event.Start p)
+
+-- a parked process is marked
+abbrev pub marked_status : ProcStatus → ProcStatus
+marked_status (Parked m) = Parked true
+marked_status Scheduled = Scheduled
+marked_status Running = Running
+marked_status AwaitsMail = AwaitsMail
+marked_status Ended = Ended
+
+abbrev pub mark : Proc → Proc
+mark q = record q { status = marked_status q.status }
+
+-- a process is parked and not marked
+abbrev pub is_unmarked : Proc → Bool
+is_unmarked q = elim (q.status) [ Parked m ↦ if m then false else true | Scheduled ↦ false | Running ↦ false | AwaitsMail ↦ false | Ended ↦ false ]
+
+-- each parked process is marked, but for one
+abbrev pub mark_others : ℕ → List Proc → List Proc
+mark_others n [] = []
+mark_others zero (q ∷ qs) = q ∷ map mark qs
+mark_others (suc n) (q ∷ qs) = mark q ∷ mark_others n qs
+
+-- the time of the first entry, where there is one
+abbrev pub IsNextTime : List Slot → Option ℤ → Type 0
+IsNextTime [] time = time ≡ None
+IsNextTime (e ∷ es) time = time ≡ Some e.time
+
+-- a process hasn't ended, and its end time is below a time
+abbrev pub is_late : ℤ → Proc → Bool
+is_late time q = is_live q && elim (q.end) [ Inf ↦ false | At end ↦ int_lt end time ]
+
+-- a time, where there is one, is below another
+abbrev pub is_before : ℤ → Option ℤ → Bool
+is_before t None = false
+is_before t (Some e) = int_lt e t

@@ -1,0 +1,211 @@
+//! Acts on a state.
+
+ghost use Rattle.std.specs.Prelude.{◌≡◌, ◌≢◌, ◌<◌, length, slice_get, slice_set, Some, IfSome, IfOk, OnOk, List, ◌∷◌};
+ghost use Rattle.tp_terms.specs.declared.world.Proc.{Proc};
+ghost use Rattle.tp_terms.specs.declared.world.Slot.{Slot};
+ghost use Rattle.tp_state.specs.Acts.{is_unmarked, mark, mark_others};
+ghost use Rattle.tp_state.specs.State.{plain_of, held_of};
+
+use crate::state::State;
+use tp_control::Item;
+use tp_terms::{Event, EventKind, ItemId, NoMemory, Proc, ProcStatus, Ref};
+
+/// A process, marked where it is parked.
+fn marked(proc: Proc) -> Proc
+    ensures { result ≡ mark proc }
+{
+    match proc.status {
+        ProcStatus::Parked { marked: _ } => Proc {
+            status: ProcStatus::Parked { marked: true },
+            ..proc
+        },
+        _ => proc,
+    }
+}
+
+/// Whether a process is parked and not marked.
+fn is_unmarked(proc: &Proc) -> bool
+    ensures { result ≡ is_unmarked proc.now }
+{
+    match proc.status {
+        ProcStatus::Parked { marked } => !marked,
+        _ => false,
+    }
+}
+
+impl State {
+    ghost use Rattle.tp_state.specs.Acts.{pushed, resting, bodied, noted, ran, left, begun, opened, changed};
+    ghost use Rattle.tp_state.specs.Going.{Follows};
+
+    // ---- the running process
+
+    /// The running process has other items.
+    pub fn rest(&mut self, items: Option<ItemId>)
+        ensures plain { plain_of self.new ≡ resting items (plain_of self.old) }
+        ensures follows { Follows (held_of self.old) (held_of self.new) }
+    {
+        self.items = items;
+    }
+
+    /// The running process has an item more.
+    pub fn push(&mut self, item: Item) -> Result<(), NoMemory>
+        requires { IfSome self.old.items (λ i. i.at < length self.old.frames) }
+        ensures plain { OnOk result (plain_of self.new ≡ pushed item (plain_of self.old)) }
+        ensures follows { OnOk result (Follows (held_of self.old) (held_of self.new)) }
+    {
+        let first = self.frames.push(item, self.items)?;
+        self.items = Some(first);
+        Ok(())
+    }
+
+    /// The running process has the body of a clause more, where there is one.
+    pub fn push_body(&mut self, body: Option<Ref>, barrier: u64) -> Result<(), NoMemory>
+        requires { IfSome self.old.items (λ i. i.at < length self.old.frames) }
+        ensures plain { OnOk result (plain_of self.new ≡ bodied body barrier (plain_of self.old)) }
+        ensures follows { OnOk result (Follows (held_of self.old) (held_of self.new)) }
+    {
+        match body {
+            None => Ok(()),
+            Some(goal) => self.push(Item::Goal { goal, barrier }),
+        }
+    }
+
+    // ---- processes
+
+    /// A process is changed. Its name stays.
+    pub fn change(&mut self, pid: usize, proc: Proc) -> Result<(), NoMemory>
+        requires pid { pid < length self.old.procs }
+        requires name { IfSome (slice_get self.old.procs pid) (λ old. old.name ≡ proc.name) }
+        ensures plain { OnOk result (plain_of self.new ≡ changed pid proc (plain_of self.old)) }
+        ensures follows { OnOk result (Follows (held_of self.old) (held_of self.new)) }
+    {
+        self.procs.set(pid, proc, &mut self.log)?;
+        Ok(())
+    }
+
+    /// The running process goes on later, or not at all, with this status.
+    pub fn leave(&mut self, pid: usize, status: ProcStatus) -> Result<(), NoMemory>
+        requires { pid < length self.old.procs }
+        ensures plain { OnOk result ((q : Proc) → slice_get self.old.procs pid ≡ Some q →
+            plain_of self.new ≡ left pid q status (plain_of self.old)) }
+        ensures follows { OnOk result (Follows (held_of self.old) (held_of self.new)) }
+    {
+        let proc = self.procs.get(pid);
+        let items = self.items;
+        self.change(
+            pid,
+            Proc {
+                status,
+                items,
+                ..proc
+            },
+        )?;
+        self.running = None;
+        self.items = None;
+        Ok(())
+    }
+
+    /// A process runs.
+    pub fn run(&mut self, pid: usize) -> Result<(), NoMemory>
+        requires { pid < length self.old.procs }
+        ensures plain { OnOk result ((q : Proc) → slice_get self.old.procs pid ≡ Some q →
+            plain_of self.new ≡ ran pid q (plain_of self.old)) }
+        ensures follows { OnOk result (Follows (held_of self.old) (held_of self.new)) }
+    {
+        let proc = self.procs.get(pid);
+        self.change(
+            pid,
+            Proc {
+                status: ProcStatus::Running,
+                ..proc
+            },
+        )?;
+        self.running = Some(pid);
+        self.items = proc.items;
+        Ok(())
+    }
+
+    /// A process is marked, where it is parked.
+    fn mark(&mut self, pid: usize) -> Result<(), NoMemory>
+        requires { pid < length self.old.procs }
+        ensures plain { OnOk result ((q : Proc) → slice_get self.old.procs pid ≡ Some q →
+            plain_of self.new ≡ changed pid (mark q) (plain_of self.old)) }
+        ensures follows { OnOk result (Follows (held_of self.old) (held_of self.new)) }
+    {
+        let proc = self.procs.get(pid);
+        if is_unmarked(&proc) {
+            self.change(pid, marked(proc))?;
+        }
+        Ok(())
+    }
+
+    /// Marks each process that is parked, but for one.
+    pub fn mark_others(&mut self, pid: usize) -> Result<(), NoMemory>
+        ensures plain { OnOk result (plain_of self.new ≡ record (plain_of self.old) {
+          procs = mark_others pid self.old.procs;
+        }) }
+        ensures follows { OnOk result (Follows (held_of self.old) (held_of self.new)) }
+    {
+        for at in 0..self.procs.len() {
+            if at != pid {
+                self.mark(at)?;
+            }
+        }
+        Ok(())
+    }
+
+    // ---- events and the calendar
+
+    /// Adds an event that a process makes now.
+    pub fn note(&mut self, pid: usize, kind: EventKind) -> Result<(), NoMemory>
+        ensures plain { OnOk result (plain_of self.new ≡ noted pid kind (plain_of self.old)) }
+        ensures follows { OnOk result (Follows (held_of self.old) (held_of self.new)) }
+    {
+        self.events.push(Event {
+            time: self.clock,
+            pid,
+            kind,
+        })?;
+        Ok(())
+    }
+
+    /// A process that hadn't started has now.
+    pub fn open(&mut self, pid: usize) -> Result<(), NoMemory>
+        requires { pid < length self.old.procs }
+        ensures plain { OnOk result ((q : Proc) → slice_get self.old.procs pid ≡ Some q →
+            plain_of self.new ≡ opened pid q (plain_of self.old)) }
+        ensures follows { OnOk result (Follows (held_of self.old) (held_of self.new)) }
+    {
+        let proc = self.procs.get(pid);
+        if proc.started {
+            return Ok(());
+        }
+        self.note(pid, EventKind::Start)?;
+        self.change(
+            pid,
+            Proc {
+                started: true,
+                ..proc
+            },
+        )?;
+        Ok(())
+    }
+
+    /// The time comes to the first entry of the calendar, whose process is answered.
+    pub fn take_slot(&mut self) -> Result<usize, NoMemory>
+        requires { 0 < length self.old.calendar.slots }
+        ensures plain { IfOk result (λ pid. (e : Slot) (es : List Slot) →
+            self.old.calendar.slots ≡ e ∷ es →
+            (pid ≡ e.pid) × (plain_of self.new ≡ record (plain_of self.old) {
+              clock = e.time;
+              slots = es;
+            })) }
+        ensures follows { OnOk result (Follows (held_of self.old) (held_of self.new)) }
+    {
+        let Some(slot) = self.calendar.take_first(&mut self.log)? else {
+            unreachable!()
+        };
+        self.clock = slot.time;
+        Ok(slot.pid)
+    }
+}
