@@ -2,6 +2,7 @@
 
 use std::alloc::Global;
 use std::test::Fail;
+use tp_log::{Entry, Log};
 use tp_store::Store;
 use tp_terms::{AtomId, Binds, Cell, Cells, NoMemory, Ref};
 
@@ -48,6 +49,24 @@ fn copies(alloc: Global) -> Result<bool, NoMemory> {
     Ok(asked && equal && copy.bound(0) == None && store.bound(0) == Some(a))
 }
 
+/// Whether a head and a variable are bound with a log, whose newest entry takes a binding back.
+fn takes_back(alloc: Global) -> Result<bool, NoMemory> {
+    let mut log = Log::new(alloc);
+    let mut head = Cells::new(alloc);
+    let root = head.push(Cell::Atom(A))?;
+    let mut store = Store::new(alloc);
+    let x = store.fresh()?;
+    let y = store.fresh()?;
+    let same = store.unify_logged(y, x, &mut log)?;
+    let equal = store.unify_head(x, &head, root, 0, &mut log)?;
+    let newest = log.pop_above(1);
+    if store.bound(0).is_some() {
+        store.undo_bind(0);
+    }
+    let free = store.bound(0).is_none() && store.bound(1) == Some(x);
+    Ok(same && equal && log.len() == 1 && newest == Some(Entry::Bind(0)) && free)
+}
+
 /// Whether the body of a variable calls it, and is taken back.
 fn goes_back(alloc: Global) -> Result<bool, NoMemory> {
     let mut store = Store::new(alloc);
@@ -63,6 +82,7 @@ fn goes_back(alloc: Global) -> Result<bool, NoMemory> {
 fn each_call_once(rt: HostRuntime) -> Result<(), Fail> {
     assert!(rt; makes_equal(rt.alloc())?);
     assert!(rt; copies(rt.alloc())?);
+    assert!(rt; takes_back(rt.alloc())?);
     assert!(rt; goes_back(rt.alloc())?);
     Ok(())
 }
