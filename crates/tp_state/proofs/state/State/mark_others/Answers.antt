@@ -1,7 +1,8 @@
-use Rattle.std.proofs.Common.{◌≡◌, ◌<◌, ◌++◌, length, take, drop, slice_set, ap, sym, ◌∙◌, arith}
+use Rattle.std.proofs.Common.{◌≡◌, ◌<◌, ◌++◌, length, take, drop, slice_set, ap, sym, subst, ◌∙◌, arith}
 use Rattle.tp_state.specs.Plain.{Plain}
 use Rattle.tp_state.specs.Acts.{mark, mark_others}
-use Rattle.tp_state.specs.State.{plain_of}
+use Rattle.tp_state.specs.Going.{Follows}
+use Rattle.tp_state.specs.State.{plain_of, held_of}
 use Rattle.tp_state.proofs.Marked.{marks-next, leaves-one, marks-all, seam-length}
 use Rattle.tp_state.proofs.Changes.{there}
 use Rattle.tp_state.proofs.GoingBack.Follows.{follows-then}
@@ -29,13 +30,13 @@ loop-at-preserved c =
                 ap plain_of w.self-is ∙ w.in_ok-mark.ensures.plain q.0 q.1
                 ∙ ap (λ (p : Plain). record p { procs = slice_set now k (mark q.0) }) c.loop-at.invariant.plain
                 ∙ ap (λ ps. record (plain_of c.args.self.now) { procs = ps }) (marks-next n k qs now is lt q.0 (λ e. w.if-at-pid.true (sym e)) q.1);
-            follows = ?;
+            follows = subst (λ h. Follows (held_of c.args.self.now) h) (sym (ap held_of w.self-is)) (follows-then _ _ _ c.loop-at.invariant.follows w.in_ok-mark.ensures.follows);
           }
       | else-at-pid w ↦ record {
         plain =
             ap plain_of w.self-is ∙ c.loop-at.invariant.plain
             ∙ ap (λ ps. record (plain_of c.args.self.now) { procs = ps }) (sym is ∙ leaves-one n k qs now is lt (sym w.if-at-pid.false));
-        follows = ?;
+        follows = subst (λ h. Follows (held_of c.args.self.now) h) (sym (ap held_of w.self-is)) c.loop-at.invariant.follows;
       }
     ]
 
