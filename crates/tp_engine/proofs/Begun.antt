@@ -29,15 +29,15 @@ use Rattle.tp_meaning.proofs.Holds.{Stands, ChoiceHolds}
 use Rattle.tp_meaning.proofs.Rise.{start-valid}
 use Rattle.tp_store.specs.Contents.{Contents, IsStore, AddsCells, chained, subst_of, seen, with_vars}
 use Rattle.tp_parse.specs.declared.read.ReadTerm.{ReadTerm}
-use Rattle.tp_engine.specs.declared.frames.Item.{Item}
-use Rattle.tp_engine.specs.declared.frames.Item.TheVariants.{Goal}
-use Rattle.tp_engine.specs.declared.state.State.{State}
+use Rattle.tp_control.specs.declared.frames.Item.{Item}
+use Rattle.tp_control.specs.declared.frames.Item.TheVariants.{Goal}
+use Rattle.tp_state.specs.declared.state.State.{State}
 use Rattle.tp_engine.specs.declared.machine.Machine.{Machine}
 use Rattle.tp_engine.specs.Program.{goal_term}
-use Rattle.tp_engine.specs.Plain.{Plain, world_of}
-use Rattle.tp_engine.specs.Stands.{PlainStands}
+use Rattle.tp_state.specs.Plain.{Plain, world_of}
+use Rattle.tp_state.specs.Stands.{PlainStands}
 use Rattle.tp_engine.specs.Start.{waiting_at, IsPlaced, IsStart}
-use Rattle.tp_engine.specs.State.{plain_of}
+use Rattle.tp_state.specs.State.{plain_of}
 use Rattle.tp_engine.specs.Machine.{IsProgram, ChoiceFits, IsBegun, base_in, choices_of, waiting_of, world_in, open_in}
 use Rattle.tp_engine.proofs.Program.{goal_below}
 
@@ -177,12 +177,12 @@ module _ (names : List Name) (table : IsTable names) (goal : ReadTerm) where
 -- ---- the machine
 
 -- a machine at its start
-pub begun : (m : Machine) → m.waiting ≡ None → m.choices.items ≡ [] → m.stamp ≡ 0 → IsProgram m → IsStart m.atoms m.goal.now (plain_of m.state) → IsBegun m
+pub begun : (m : Machine) → m.waiting ≡ None → m.choices ≡ [] → m.stamp ≡ 0 → IsProgram m → IsStart m.atoms m.goal.now (plain_of m.state) → IsBegun m
 begun m going none first program s =
     let x = searched (base_in m) in
     let n = m.goal.now.vars in
     let open_ : open_in m ≡ [] =
-    ap (λ o. waiting_of (base_in m) (world_in m) m.stamp o ++ choices_of m.atoms (base_in m) m.choices.items) going ∙ ap (choices_of m.atoms (base_in m)) none in
+    ap (λ o. waiting_of (base_in m) (world_in m) m.stamp o ++ choices_of m.atoms (base_in m) m.choices) going ∙ ap (choices_of m.atoms (base_in m)) none in
     let is : world_in m ≡ start (goal_term m.atoms m.goal.now) n = ap (world_of m.atoms (plain_of m.state)) first ∙ start_world m.atoms program.table m.goal.now (plain_of m.state) s in
     record {
       machine = record {

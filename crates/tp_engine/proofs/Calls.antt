@@ -16,8 +16,8 @@ use Rattle.tp_engine.specs.declared.phase.Phase.TheVariants as phase
 use Rattle.tp_engine.specs.declared.phase.Stepped.{Stepped}
 use Rattle.tp_engine.specs.Machine.{IsMachine, IsBack, IsProgram, SameProgram, Rewinds, base_in, open_in, state_in}
 use Rattle.tp_engine.specs.Phases.{Keeps, phase_after}
-use Rattle.tp_engine.specs.Stands.{PlainStands, ProcStands}
-use Rattle.tp_engine.specs.State.{plain_of}
+use Rattle.tp_state.specs.Stands.{PlainStands, ProcStands}
+use Rattle.tp_state.specs.State.{plain_of}
 use Rattle.tp_engine.specs.Told.{MayRewind, IsWhole, IsSound, IsSame, IsCounted, IsUncounted, Told, number_after, seen_of, told_of}
 use Rattle.tp_engine.proofs.Later.{base_stays}
 
@@ -96,7 +96,7 @@ plain_sound m number steps h s le = record {
   store = s.store;
   fits = Fits-store m.state.store s.store;
   atoms = s.atoms;
-  procs = all-weaker (ProcStands (length m.atoms) (length m.state.frames)) (λ (q : Proc). q.name.at < length m.atoms) (λ q k. k.name) m.state.procs.items s.procs;
+  procs = all-weaker (ProcStands (length m.atoms) (length m.state.frames)) (λ (q : Proc). q.name.at < length m.atoms) (λ q k. k.name) m.state.procs s.procs;
   events = s.events;
   named = λ k d lt. let b = h.goal.named k d lt in omega (arith, b, le);
 }

@@ -6,7 +6,7 @@ use Rattle.std.specs.Option.{option_to_list}
 use Rattle.tp_terms.specs.Term.{Name}
 use Rattle.tp_meaning.specs.Clauses.{Base}
 use Rattle.tp_meaning.specs.Machine.{cut_from}
-use Rattle.tp_engine.specs.declared.machine.Choice.{Choice}
+use Rattle.tp_control.specs.declared.choices.Choice.{Choice}
 use Rattle.tp_engine.specs.Machine.{choice_of, choices_of, newest_from}
 
 seam : {A : Type 0} (xs : List A) (x : A) → slice_get (xs ++ x ∷ []) (length xs) ≡ Some x

@@ -6,8 +6,8 @@ use Rattle.tp_terms.specs.declared.cells.Cell.TheVariants as cell
 use Rattle.tp_terms.specs.Term.{Name, Terms, Var, Int, Atom, Comp, NoMore, More, term_of, count_of}
 use Rattle.tp_terms.specs.Shown.{name_at}
 use Rattle.tp_store.specs.Contents.{Contents, seen, seen_cell}
-use Rattle.tp_engine.specs.declared.frames.Item.{Item}
-use Rattle.tp_engine.specs.declared.frames.Item.TheVariants.{Goal}
+use Rattle.tp_control.specs.declared.frames.Item.{Item}
+use Rattle.tp_control.specs.declared.frames.Item.TheVariants.{Goal}
 use Rattle.tp_engine.specs.declared.task.Call.{Call}
 use Rattle.tp_engine.specs.declared.task.Met.{Met}
 use Rattle.tp_engine.specs.declared.task.Met.TheVariants as met

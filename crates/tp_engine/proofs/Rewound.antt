@@ -10,7 +10,7 @@ use Rattle.tp_meaning.specs.Step.{searched}
 use Rattle.tp_meaning.specs.Machine.{State, rewound}
 use Rattle.tp_meaning.proofs.Stack.{HasStack}
 use Rattle.tp_meaning.proofs.Holds.{Holds, Stands}
-use Rattle.tp_engine.specs.declared.machine.Choice.{Choice}
+use Rattle.tp_control.specs.declared.choices.Choice.{Choice}
 use Rattle.tp_engine.specs.declared.machine.Machine.{Machine}
 use Rattle.tp_engine.specs.Machine.{ChoiceFits, IsMachine, Rewinds, base_in, choice_of, choices_of, waiting_of, world_in, state_in}
 
@@ -19,12 +19,12 @@ pub choices-push : (names : List Name) (base : Base) (cs : List Choice) (c : Cho
 choices-push names base cs c = ap (map (choice_of names base)) (reverse-append cs (c ∷ []))
 
 -- where a machine may make a step, its choices stand open, and no other
-pub going_state : (m : Machine) → m.waiting ≡ None → state_in m ≡ record { world = world_in m; choices = choices_of m.atoms (base_in m) m.choices.items }
-going_state m e = ap (λ o. record { world = world_in m; choices = waiting_of (base_in m) (world_in m) m.stamp o ++ choices_of m.atoms (base_in m) m.choices.items }) e
+pub going_state : (m : Machine) → m.waiting ≡ None → state_in m ≡ record { world = world_in m; choices = choices_of m.atoms (base_in m) m.choices }
+going_state m e = ap (λ o. record { world = world_in m; choices = waiting_of (base_in m) (world_in m) m.stamp o ++ choices_of m.atoms (base_in m) m.choices }) e
 
 -- ---- where there is no choice
 
-module _ (m : Machine) (rest : Vec Choice Global) (is : IsMachine m) (none : m.choices.items ≡ []) (empty : rest.items ≡ []) where
+module _ (m : Machine) (rest : Vec Choice Global) (is : IsMachine m) (none : m.choices ≡ []) (empty : rest.items ≡ []) where
   abbrev left : Machine
   left = record m { choices = rest }
 
@@ -55,7 +55,7 @@ module _ (m : Machine) (rest : Vec Choice Global) (is : IsMachine m) (none : m.c
 
 -- ---- where there is one
 
-module _ (m : Machine) (rest : Vec Choice Global) (c : Choice) (is : IsMachine m) (newest : m.choices.items ≡ rest.items ++ c ∷ []) where
+module _ (m : Machine) (rest : Vec Choice Global) (c : Choice) (is : IsMachine m) (newest : m.choices ≡ rest.items ++ c ∷ []) where
   abbrev before : State World
   before = record { world = world_in m; choices = choice_of m.atoms (base_in m) c ∷ choices_of m.atoms (base_in m) rest.items }
 
@@ -65,7 +65,7 @@ module _ (m : Machine) (rest : Vec Choice Global) (c : Choice) (is : IsMachine m
       ∙ ap (λ cs. record { world = world_in m; choices = cs }) (ap (choices_of m.atoms (base_in m)) newest ∙ choices-push m.atoms (base_in m) rest.items c)
 
   fits : All (ChoiceFits m.atoms (base_in m)) rest.items × ChoiceFits m.atoms (base_in m) c
-  fits = All-pop (ChoiceFits m.atoms (base_in m)) m.choices.items rest.items (Some c) newest is.choices
+  fits = All-pop (ChoiceFits m.atoms (base_in m)) m.choices rest.items (Some c) newest is.choices
 
   hold : Holds (Stands m.goal.now.vars) before
   hold = subst (Holds (Stands m.goal.now.vars)) before_state is.worlds

@@ -5,11 +5,11 @@ use Rattle.tp_meaning.specs.World.{World}
 use Rattle.tp_meaning.specs.Machine.{IsChoice, with_choice}
 use Rattle.tp_meaning.specs.Step.{searched}
 use Rattle.tp_meaning.proofs.Holds.{ChoiceHolds, Stands}
-use Rattle.tp_engine.specs.declared.machine.Alt.{Alt}
-use Rattle.tp_engine.specs.declared.machine.Alt.TheVariants.{Clause}
+use Rattle.tp_control.specs.declared.choices.Alt.{Alt}
+use Rattle.tp_control.specs.declared.choices.Alt.TheVariants.{Clause}
 use Rattle.tp_engine.specs.declared.machine.Machine.{Machine}
-use Rattle.tp_engine.specs.State.{plain_of}
-use Rattle.tp_engine.specs.Stands.{PlainStands}
+use Rattle.tp_state.specs.State.{plain_of}
+use Rattle.tp_state.specs.Stands.{PlainStands}
 use Rattle.tp_engine.specs.Untried.{untried}
 use Rattle.tp_engine.specs.Machine.{ChoiceFits, GoesOn, IsMachine, base_in, choices_of, open_at, world_in}
 
@@ -21,15 +21,15 @@ untried_in m next = untried (base_in m) (world_in m) next
 pub record MayKeep (m : Machine) (next : Alt) : Type 0 where
   pub stands : PlainStands m.atoms (plain_of m.state)
   pub goes_on : GoesOn m.atoms (base_in m) (plain_of m.state) next
-  pub choices : All (ChoiceFits m.atoms (base_in m)) m.choices.items
+  pub choices : All (ChoiceFits m.atoms (base_in m)) m.choices
   pub left : 0 < length (untried_in m next)
 
 -- a choice of these worlds was kept, where there are any; all else stays
 pub record KeepsWorlds (old : Machine) (more : List World) (new : Machine) : Type 0 where
   pub same : new ≡ record old { state = new.state; choices = new.choices }
   pub plain : plain_of new.state ≡ plain_of old.state
-  pub fits : All (ChoiceFits old.atoms (base_in old)) new.choices.items
-  pub kept : choices_of old.atoms (base_in old) new.choices.items ≡ with_choice old.stamp (world_in old) more (choices_of old.atoms (base_in old) old.choices.items)
+  pub fits : All (ChoiceFits old.atoms (base_in old)) new.choices
+  pub kept : choices_of old.atoms (base_in old) new.choices ≡ with_choice old.stamp (world_in old) more (choices_of old.atoms (base_in old) old.choices)
 
 -- a choice of what is next was kept
 abbrev pub IsKept : Machine → Alt → Machine → Type 0

@@ -1,11 +1,5 @@
 pub mod Program
 pub mod Code
-pub mod Lists
-pub mod Boxes
-pub mod Plain
-pub mod Stands
-pub mod State
-pub mod Acts
 pub mod Built
 pub mod Causes
 pub mod Heads

@@ -16,20 +16,20 @@ use Rattle.tp_meaning.specs.Valid.{Valid}
 use Rattle.tp_meaning.proofs.Holds.{Holds, ChoiceHolds, Stands}
 use Rattle.tp_store.specs.Contents.{seen}
 use Rattle.tp_clauses.specs.Contents.{IsBase, base_of}
-use Rattle.tp_engine.specs.declared.frames.Item.{Item}
-use Rattle.tp_engine.specs.declared.frames.Item.TheVariants.{Goal, Retry}
-use Rattle.tp_engine.specs.declared.machine.Alt.{Alt}
-use Rattle.tp_engine.specs.declared.machine.Alt.TheVariants as alt
-use Rattle.tp_engine.specs.declared.machine.Choice.{Choice}
+use Rattle.tp_control.specs.declared.frames.Item.{Item}
+use Rattle.tp_control.specs.declared.frames.Item.TheVariants.{Goal, Retry}
+use Rattle.tp_control.specs.declared.choices.Alt.{Alt}
+use Rattle.tp_control.specs.declared.choices.Alt.TheVariants as alt
+use Rattle.tp_control.specs.declared.choices.Choice.{Choice}
 use Rattle.tp_engine.specs.declared.machine.Machine.{Machine}
 use Rattle.tp_engine.specs.declared.phase.Stepped.{Stepped}
 use Rattle.tp_engine.specs.declared.phase.Stepped.TheVariants as answer
 use Rattle.tp_engine.specs.Program.{GoalFits, goal_term}
-use Rattle.tp_engine.specs.Lists.{items_at}
+use Rattle.tp_control.specs.Lists.{items_at}
 use Rattle.tp_engine.specs.Heads.{hits}
-use Rattle.tp_engine.specs.Plain.{Plain, world_of}
-use Rattle.tp_engine.specs.Stands.{PlainStands}
-use Rattle.tp_engine.specs.State.{plain_of}
+use Rattle.tp_state.specs.Plain.{Plain, world_of}
+use Rattle.tp_state.specs.Stands.{PlainStands}
+use Rattle.tp_state.specs.State.{plain_of}
 use Rattle.tp_engine.specs.Untried.{untried}
 
 -- ---- the program
@@ -76,7 +76,7 @@ abbrev pub world_in : Machine → World
 world_in m = world_of m.atoms (plain_of m.state) m.stamp
 
 abbrev pub open_in : Machine → List (machine.Choice World)
-open_in m = waiting_of (base_in m) (world_in m) m.stamp m.waiting ++ choices_of m.atoms (base_in m) m.choices.items
+open_in m = waiting_of (base_in m) (world_in m) m.stamp m.waiting ++ choices_of m.atoms (base_in m) m.choices
 
 abbrev pub state_in : Machine → machine.State World
 state_in m = record { world = world_in m; choices = open_in m }
@@ -136,7 +136,7 @@ pub record IsMachine (m : Machine) : Type 0 where
   pub going : m.waiting ≡ None
   pub program : IsProgram m
   pub stands : PlainStands m.atoms (plain_of m.state)
-  pub choices : All (ChoiceFits m.atoms (base_in m)) m.choices.items
+  pub choices : All (ChoiceFits m.atoms (base_in m)) m.choices
   pub worlds : Holds (Stands m.goal.now.vars) (state_in m)
   pub stack : HasStack (searched (base_in m)) (state_in m)
 
@@ -159,7 +159,7 @@ pub record IsBack (m : Machine) : Type 0 where
 pub record IsBegun (m : Machine) : Type 0 where
   pub machine : IsMachine m
   pub world : world_in m ≡ start (goal_term m.atoms m.goal.now) m.goal.now.vars
-  pub choices : m.choices.items ≡ []
+  pub choices : m.choices ≡ []
   pub stamp : m.stamp ≡ 0
   pub body : IsTrue (is_some (body (goal_term m.atoms m.goal.now)))
 

@@ -14,8 +14,8 @@ use Rattle.tp_meaning.specs.Turn.{Turn}
 use Rattle.tp_meaning.specs.Clauses.{Base, Clause, predicate}
 use Rattle.tp_meaning.specs.Step.{goal_by}
 use Rattle.tp_store.specs.Contents.{Contents, subst_of, seen}
-use Rattle.tp_engine.specs.declared.frames.Item.{Item}
-use Rattle.tp_engine.specs.declared.frames.Item.TheVariants.{Goal}
+use Rattle.tp_control.specs.declared.frames.Item.{Item}
+use Rattle.tp_control.specs.declared.frames.Item.TheVariants.{Goal}
 use Rattle.tp_engine.specs.declared.machine.Machine.{Machine}
 use Rattle.tp_engine.specs.declared.task.Task.{Task}
 use Rattle.tp_engine.specs.declared.task.Call.{Call}
@@ -23,10 +23,10 @@ use Rattle.tp_engine.specs.declared.task.Met.{Met}
 use Rattle.tp_engine.specs.declared.task.Met.TheVariants as met
 use Rattle.tp_engine.specs.declared.errors.Cause.{Cause}
 use Rattle.tp_engine.specs.declared.errors.Cause.TheVariants as cause
-use Rattle.tp_engine.specs.Acts.{is_marked, is_late}
-use Rattle.tp_engine.specs.Lists.{items_at}
-use Rattle.tp_engine.specs.State.{plain_of}
-use Rattle.tp_engine.specs.Stands.{ItemStands}
+use Rattle.tp_state.specs.Acts.{is_marked, is_late}
+use Rattle.tp_control.specs.Lists.{items_at}
+use Rattle.tp_state.specs.State.{plain_of}
+use Rattle.tp_state.specs.Stands.{ItemStands}
 use Rattle.tp_engine.specs.Heads.{hits}
 use Rattle.tp_engine.specs.Machine.{IsMachine, IsStanding, base_in, items_in}
 
@@ -41,15 +41,15 @@ pub record IsIdle (m : Machine) : Type 0 where
 -- and no process is marked
 pub record IsUnmarked (m : Machine) : Type 0 where
   pub idle : IsIdle m
-  pub none : position is_marked m.state.procs.items ≡ None
+  pub none : position is_marked m.state.procs ≡ None
 
 -- and the calendar has a first entry, at whose time no process is late
 pub record TakesEntry (m : Machine) : Type 0 where
   pub unmarked : IsUnmarked m
   pub entry : Slot
   pub more : List Slot
-  pub slots : m.state.slots.items ≡ entry ∷ more
-  pub timely : list_any (is_late entry.time) m.state.procs.items ≡ false
+  pub slots : m.state.calendar.slots ≡ entry ∷ more
+  pub timely : list_any (is_late entry.time) m.state.procs ≡ false
 
 -- ---- where one runs
 

@@ -16,7 +16,7 @@ pub record IsReady (m : Machine) (number steps : ℕ) : Type 0 where
 pub record IsFresh (m : Machine) (number steps : ℕ) : Type 0 where
   pub ready : IsReady m number steps
   pub none : steps ≡ 0
-  pub choices : m.choices.items ≡ []
+  pub choices : m.choices ≡ []
 
 pub record IsRewound (m : Machine) (number steps : ℕ) : Type 0 where
   pub back : IsBack m

@@ -9,9 +9,9 @@ use Rattle.tp_terms.specs.Shown.{shows, AreNamed}
 use Rattle.tp_meaning.specs.Body.{body}
 use Rattle.tp_store.specs.Contents.{Contents, IsStore}
 use Rattle.tp_parse.specs.declared.read.ReadTerm.{ReadTerm}
-use Rattle.tp_engine.specs.declared.frames.Item.TheVariants.{Goal}
+use Rattle.tp_control.specs.declared.frames.Item.TheVariants.{Goal}
 use Rattle.tp_engine.specs.Program.{goal_term}
-use Rattle.tp_engine.specs.Plain.{Plain}
+use Rattle.tp_state.specs.Plain.{Plain}
 
 -- `main` waits for its start with a goal
 abbrev pub waiting_at : Contents → Ref → Plain

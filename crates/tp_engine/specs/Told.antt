@@ -21,10 +21,10 @@ use Rattle.tp_engine.specs.declared.phase.Phase.{Phase}
 use Rattle.tp_engine.specs.declared.phase.Phase.TheVariants as phase
 use Rattle.tp_engine.specs.declared.phase.Stepped.{Stepped}
 use Rattle.tp_engine.specs.declared.phase.Stepped.TheVariants as answer
-use Rattle.tp_engine.specs.Plain.{Plain, world_of}
+use Rattle.tp_state.specs.Plain.{Plain, world_of}
 use Rattle.tp_engine.specs.Program.{goal_term}
 use Rattle.tp_terms.specs.Events.{EventStands}
-use Rattle.tp_engine.specs.State.{plain_of}
+use Rattle.tp_state.specs.State.{plain_of}
 use Rattle.tp_engine.specs.Machine.{base_in, open_in}
 
 -- an engine's own state: the table of names, the plain contents and the stamp of its world, how

@@ -8,8 +8,8 @@ use Rattle.tp_meaning.specs.declared.goals.GoalKind.{GoalKind}
 use Rattle.tp_meaning.specs.Goals.{goal_kind}
 use Rattle.tp_meaning.specs.Process.{await_again}
 use Rattle.tp_meaning.specs.Clauses.{Base, predicate, worlds_of}
-use Rattle.tp_engine.specs.declared.machine.Alt.{Alt}
-use Rattle.tp_engine.specs.declared.machine.Alt.TheVariants.{Clause, Second}
+use Rattle.tp_control.specs.declared.choices.Alt.{Alt}
+use Rattle.tp_control.specs.declared.choices.Alt.TheVariants.{Clause, Second}
 
 -- the second of two worlds
 abbrev pub second_of : Gives → List World

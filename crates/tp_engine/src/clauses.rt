@@ -3,7 +3,7 @@
 ghost use Rattle.std.specs.Prelude.{OnErr, ◌≡◌, ◌+◌, ◌<◌, ◌^◌, ◌-◌, Some, None, IfOk, IfSome, OnOk, length, slice_get, map, drop};
 
 use crate::errors::Cause;
-use crate::frames::Item;
+use tp_control::Item;
 use crate::goals::met;
 use crate::heads::{enter_clause, meets};
 use crate::machine::{Alt, Machine};
@@ -23,7 +23,7 @@ fn id_at(places: &[ClauseId], place: usize) -> ClauseId
 
 impl<'a> Machine<'a> {
     ghost use Rattle.tp_clauses.specs.Contents.{clauses_at};
-    ghost use Rattle.tp_engine.specs.declared.machine.Alt.{Alt};
+    ghost use Rattle.tp_control.specs.declared.choices.Alt.{Alt};
     ghost use Rattle.tp_engine.specs.Machine.{IsMachine, IsProgram, SameProgram, Steps, Resumes};
     ghost use Rattle.tp_engine.specs.Meets.{Calls, Hits, IsCurrent, clauses_of, found_from};
     ghost use Rattle.tp_engine.specs.Goes.{IsKept, Enters, Returns};
@@ -104,7 +104,7 @@ impl<'a> Machine<'a> {
         let id = id_at(self.places(call), place);
         let clause = self.base.clause(id);
         self.state.items = task.rest;
-        let body = enter_clause(&mut self.state.store, task.goal, self.base.cells(), clause)?;
+        let body = enter_clause(&mut self.state, task.goal, self.base.cells(), clause)?;
         self.state.push_body(body, self.stamp)?;
         self.stamp += 1;
         Ok(())

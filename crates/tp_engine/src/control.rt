@@ -5,10 +5,10 @@ ghost use Rattle.tp_meaning.specs.declared.goals.GoalKind.TheVariants.{Control};
 ghost use Rattle.tp_meaning.specs.declared.goals.ControlGoal.{ControlGoal};
 
 use crate::errors::Cause;
-use crate::frames::Item;
 use crate::machine::Machine;
 use crate::phase::Stepped;
 use crate::task::{Call, Task};
+use tp_control::Item;
 use tp_meaning::{ControlGoal, DeadCause};
 use tp_terms::{NoMemory, Ref};
 

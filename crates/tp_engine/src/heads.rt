@@ -37,23 +37,28 @@ pub fn meets(
 
 /// Makes the head of a clause equal to a goal, where that can be, and answers the place of its body.
 pub fn enter_clause(
-    store: &mut Store,
+    state: &mut State,
     goal: Ref,
     cells: &Cells,
     clause: ClauseView,
 ) -> Result<Option<Ref>, NoMemory>
-    requires goal { goal.at < length store.old.cells }
+    requires goal { goal.at < length state.old.store.cells }
     requires clause { ViewFits cells.now.items clause }
-    ensures enters { IfOk result (λ place. (names : List Name) → Names names store.old.cells → AreNamed (length names) cells.now.items →
-        EntersClause names goal.at cells.now.items clause store.old place store.new) }
-    ensures store { IsStore store.new }
+    ensures enters { IfOk result (λ place. (names : List Name) →
+        Names names state.old.store.cells → AreNamed (length names) cells.now.items →
+        EntersClause names goal.at cells.now.items clause state.old.store place state.new.store) }
+    ensures plain { OnOk result (plain_of state.new
+        ≡ with_store state.new.store (plain_of state.old)) }
+    ensures follows { OnOk result (Follows (held_of state.old) (held_of state.new)) }
+    ensures store { IsStore state.new.store }
 {
-    let base = store.claim(clause.vars)?;
-    let head = store.instance(cells, clause.head, base)?;
-    let _met = store.unify(goal, head)?;
+    let base = state.store.claim(clause.vars)?;
+    let _met = state
+        .store
+        .unify_head(goal, cells, clause.head, base, &mut state.log)?;
     let Some(body) = clause.body else {
         return Ok(None);
     };
-    let body = store.instance(cells, body, base)?;
+    let body = state.store.instance(cells, body, base)?;
     Ok(Some(body))
 }

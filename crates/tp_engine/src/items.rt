@@ -1,42 +1,16 @@
 //! The items of the running process.
 
 ghost use Rattle.std.specs.Prelude.{OnErr, ◌≡◌, ℕ, List, Some, None, IfOk, OnOk, take};
-ghost use Rattle.tp_terms.specs.Term.{Name};
-ghost use Rattle.tp_meaning.specs.Clauses.{Base};
-ghost use Rattle.tp_meaning.specs.Machine.{cut_from};
-ghost use Rattle.tp_engine.specs.declared.frames.Item.{Item};
-ghost use Rattle.tp_engine.specs.Machine.{choices_of, newest_from};
+ghost use Rattle.tp_control.specs.declared.frames.Item.{Item};
 
-use crate::frames::Item;
-use crate::machine::{Alt, Choice, Machine};
+use crate::machine::Machine;
 use crate::phase::Stepped;
 use crate::task::Task;
+use tp_control::{Alt, Choice, Item};
 use tp_terms::{EventKind, ItemId, NoMemory, ProcStatus, Ref};
 
-/// Whether the newest choice has this stamp or a higher one.
-fn newest_is_from(choices: &[Choice], stamp: u64) -> bool
-    ensures { result ≡ newest_from stamp choices.now }
-{
-    match choices.last() {
-        Some(choice) => choice.stamp >= stamp,
-        None => false,
-    }
-}
-
-/// Removes the choices with this stamp or a higher one.
-fn cut_choices(choices: &mut Vec<Choice>, stamp: u64)
-    ensures cut { (names : List Name) (base : Base) →
-        choices_of names base choices.new.items
-        ≡ cut_from stamp (choices_of names base choices.old.items) }
-    ensures first { (n : ℕ) × (choices.new.items ≡ take n choices.old.items) }
-{
-    'cut: while newest_is_from(choices.as_slice(), stamp) {
-        choices.pop();
-    }
-}
-
 impl<'a> Machine<'a> {
-    ghost use Rattle.tp_engine.specs.declared.machine.Alt.{Alt};
+    ghost use Rattle.tp_control.specs.declared.choices.Alt.{Alt};
     ghost use Rattle.tp_engine.specs.Machine.{IsMachine, SameProgram, Steps, Resumes};
     ghost use Rattle.tp_engine.specs.Meets.{Runs, HasFirst};
     ghost use Rattle.tp_engine.specs.Goes.{MayKeep, IsKept, Returns};
@@ -70,9 +44,9 @@ impl<'a> Machine<'a> {
         ensures done { IfOk result (Steps self.old self.new) }
         ensures program { OnErr result (SameProgram self.old self.new) }
     {
-        self.state.leave(process, ProcStatus::Ended);
+        self.state.leave(process, ProcStatus::Ended)?;
         self.state.note(process, EventKind::End)?;
-        self.state.mark_others(process);
+        self.state.mark_others(process)?;
         self.stamp += 1;
         Ok(Stepped::Went)
     }
@@ -84,7 +58,7 @@ impl<'a> Machine<'a> {
         ensures { Steps self.old self.new result }
     {
         self.state.items = rest;
-        cut_choices(&mut self.choices, stamp);
+        self.choices.cut_from(stamp);
         self.stamp += 1;
         Stepped::Went
     }
@@ -124,7 +98,7 @@ impl<'a> Machine<'a> {
             unreachable!()
         };
         self.state
-            .leave(process, ProcStatus::Parked { marked: false });
+            .leave(process, ProcStatus::Parked { marked: false })?;
         self.stamp += 1;
         Ok(())
     }
@@ -137,11 +111,10 @@ impl<'a> Machine<'a> {
         ensures done { OnOk result (IsKept self.old next self.new) }
         ensures program { OnErr result (SameProgram self.old self.new) }
     {
-        let alloc = *self.choices.allocator();
-        let state = self.state.copy_all(alloc)?;
+        let marks = self.state.marks();
         self.choices.push(Choice {
             stamp: self.stamp,
-            state,
+            marks,
             next,
         })?;
         Ok(())

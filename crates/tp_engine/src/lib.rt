@@ -3,12 +3,11 @@
 #![tactic(auto)]
 
 mod answers;
-mod boxes;
+mod begin;
 mod clauses;
 mod control;
 mod engine;
 mod errors;
-mod frames;
 mod goals;
 mod heads;
 mod items;
@@ -17,7 +16,6 @@ mod phase;
 mod run;
 mod schedule;
 mod start;
-mod state;
 mod tally;
 mod task;
 mod turns;

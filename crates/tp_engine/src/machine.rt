@@ -5,30 +5,14 @@ ghost use Rattle.tp_terms.specs.Shown.{AreNamed};
 ghost use Rattle.tp_meaning.specs.Body.{body};
 ghost use Rattle.tp_engine.specs.Program.{GoalFits, goal_term};
 
+use crate::begin::first_state;
 use crate::phase::Stepped;
-use crate::state::State;
 use std::alloc::Global;
 use tp_clauses::Base;
+use tp_control::{Alt, Choices};
 use tp_parse::ReadTerm;
+use tp_state::State;
 use tp_terms::{Atoms, NoMemory};
-
-/// What is next in a choice.
-#[derive(Clone, Copy, Debug)]
-pub enum Alt {
-    /// The clause at this place among those of the goal.
-    Clause(usize),
-    /// The second of two worlds.
-    Second,
-}
-
-/// A world of which another part is to be tried.
-#[derive(Drop)]
-pub struct Choice {
-    pub stamp: u64,
-    /// The contents of the world.
-    pub state: State,
-    pub next: Alt,
-}
 
 /// A search under way: the clauses, the goal and the names that it runs on, the contents of the current world with its
 /// stamp, and the choices that stand open, the newest last.
@@ -39,7 +23,7 @@ pub struct Machine<'a> {
     pub atoms: Atoms,
     pub state: State,
     pub stamp: u64,
-    pub choices: Vec<Choice>,
+    pub choices: Choices,
     /// After going back: what is next in the choice whose contents these are.
     pub waiting: Option<Alt>,
 }
@@ -64,7 +48,7 @@ impl<'a> Machine<'a> {
     {
         // Its contract says what holds of every base.
         let _cells = base.cells();
-        let Some(state) = State::start(alloc, goal)? else {
+        let Some(state) = first_state(alloc, goal)? else {
             return Ok(None);
         };
         Ok(Some(Machine {
@@ -73,7 +57,7 @@ impl<'a> Machine<'a> {
             atoms,
             state,
             stamp: 0,
-            choices: Vec::new(alloc),
+            choices: Choices::new(alloc),
             waiting: None,
         }))
     }
@@ -91,7 +75,7 @@ impl<'a> Machine<'a> {
         }
     }
 
-    /// Back to the world of the newest choice, whose contents are moved. Takes no memory.
+    /// Back to the world of the newest choice. Takes no memory.
     pub fn rewind(&mut self) -> bool
         requires { IsMachine self.old }
         ensures { Rewinds self.old result self.new }
@@ -99,10 +83,9 @@ impl<'a> Machine<'a> {
         match self.choices.pop() {
             None => false,
             Some(choice) => {
-                let Choice { stamp, state, next } = choice;
-                self.state = state;
-                self.stamp = stamp;
-                self.waiting = Some(next);
+                self.state.rewind(&choice.marks);
+                self.stamp = choice.stamp;
+                self.waiting = Some(choice.next);
                 true
             }
         }
@@ -121,6 +104,7 @@ impl<'a> Machine<'a> {
         match next {
             Alt::Clause(place) => self.resume_clauses(place),
             Alt::Second => self.resume_second(),
+            Alt::Message(_) => unreachable!(),
         }
     }
 }

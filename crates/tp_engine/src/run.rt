@@ -75,7 +75,7 @@ fn search<A: Answers>(
     answers: &mut A,
 ) -> Result<Ended, AnswerFault>
     requires machine { IsMachine machine.old }
-    requires choices { machine.old.choices.items ≡ [] }
+    requires choices { machine.old.choices ≡ [] }
     requires stamp { machine.old.stamp ≤ 0 }
     requires wanted { 0 < wanted }
     ensures found { IfOk result (λ e.

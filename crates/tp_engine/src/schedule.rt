@@ -1,7 +1,7 @@
 //! The scheduler, which acts where no process runs.
 
 ghost use Rattle.std.specs.Prelude.{OnErr, ◌≡◌, [], Some, IfOk, position};
-ghost use Rattle.tp_engine.specs.Acts.{is_marked};
+ghost use Rattle.tp_procs.specs.Processes.{is_marked};
 
 use crate::machine::Machine;
 use crate::phase::Stepped;
@@ -19,20 +19,21 @@ impl<'a> Machine<'a> {
         ensures program { OnErr result (SameProgram self.old self.new) }
     {
         match self.state.first_marked() {
-            Some(process) => Ok(self.run_marked(process)),
+            Some(process) => self.run_marked(process),
             None => self.run_next(),
         }
     }
 
     /// A process that is marked runs.
-    fn run_marked(&mut self, process: usize) -> Stepped
+    fn run_marked(&mut self, process: usize) -> Result<Stepped, NoMemory>
         requires idle { IsIdle self.old }
-        requires first { position is_marked self.old.state.procs.items ≡ Some process }
-        ensures { Steps self.old self.new result }
+        requires first { position is_marked self.old.state.procs ≡ Some process }
+        ensures done { IfOk result (Steps self.old self.new) }
+        ensures program { OnErr result (SameProgram self.old self.new) }
     {
-        self.state.run(process);
+        self.state.run(process)?;
         self.stamp += 1;
-        Stepped::Went
+        Ok(Stepped::Went)
     }
 
     /// The process of the first entry of the calendar runs, unless a process would live past its end time.
@@ -53,7 +54,7 @@ impl<'a> Machine<'a> {
     /// Nothing is left to be done.
     fn stop(&self) -> Stepped
         requires unmarked { IsUnmarked self.now }
-        requires empty { self.now.state.slots.items ≡ [] }
+        requires empty { self.now.state.calendar.slots ≡ [] }
         ensures { Steps self.now self.now result }
     {
         if self.state.is_any_live() {
@@ -69,8 +70,8 @@ impl<'a> Machine<'a> {
         ensures done { IfOk result (Steps self.old self.new) }
         ensures program { OnErr result (SameProgram self.old self.new) }
     {
-        let process = self.state.take_slot();
-        self.state.run(process);
+        let process = self.state.take_slot()?;
+        self.state.run(process)?;
         self.state.open(process)?;
         self.stamp += 1;
         Ok(Stepped::Went)

@@ -3,7 +3,7 @@
 ghost use Rattle.std.specs.Prelude.{◌≡◌, ℕ, ◌<◌, length, map, slice_get, Some};
 
 use crate::machine::Machine;
-use crate::state::State;
+use tp_state::State;
 use std::marker::Model;
 use tp_history::Events;
 use tp_parse::Ops;
@@ -31,7 +31,7 @@ impl<'v> Model for AnswerView<'v> {
 
     ghost coded = { Prim.hlevel (codes, term_code) };
 
-    ghost use Rattle.tp_engine.specs.State.{plain_of};
+    ghost use Rattle.tp_state.specs.State.{plain_of};
 
     ghost view = { λ v. record {
       names = v.atoms.now;
@@ -123,7 +123,7 @@ impl<'v> AnswerView<'v> {
         requires { pid < length self.now.plain.procs }
         ensures { slice_get (map (λ q. q.name) self.now.plain.procs) pid ≡ Some result }
     {
-        self.state.procs[pid].name
+        self.state.procs.get(pid).name
     }
 
     /// The operators of the model.

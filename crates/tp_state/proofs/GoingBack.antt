@@ -1,3 +1,4 @@
 pub mod Logs
 pub mod Follows
 pub mod Undoing
+pub mod Bindings

@@ -9,6 +9,7 @@ use Rattle.tp_terms.specs.declared.world.Proc.{Proc}
 use Rattle.tp_terms.specs.declared.world.Slot.{Slot}
 use Rattle.tp_terms.specs.declared.world.EventKind.{EventKind}
 use Rattle.tp_terms.specs.declared.world.EventKind.TheVariants as event
+use Rattle.tp_store.specs.Contents.{Contents}
 use Rattle.tp_control.specs.declared.frames.Item.{Item}
 use Rattle.tp_control.specs.declared.frames.Item.TheVariants.{Goal}
 use Rattle.tp_control.specs.Lists.{items_at}
@@ -95,3 +96,7 @@ is_late time q = is_live q && elim (q.end) [ Inf ↦ false | At end ↦ int_lt e
 abbrev pub is_before : ℤ → Option ℤ → Bool
 is_before t None = false
 is_before t (Some e) = int_lt e t
+
+-- another store
+abbrev pub with_store : Contents → Plain → Plain
+with_store c p = record p { store = c }

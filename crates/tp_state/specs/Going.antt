@@ -1,7 +1,11 @@
 -- Going on and going back in one state.
 use Rattle.std.specs.Prelude.{◌≡◌, ℕ, ◌≤◌, List, ◌++◌, length, take, drop}
 use Rattle.tp_control.specs.declared.choices.Marks.{Marks}
+use Rattle.tp_terms.specs.declared.cells.Cell.{Cell}
+use Rattle.tp_terms.specs.Binds.{Bindings}
 use Rattle.tp_log.specs.declared.entry.Entry.{Entry}
+use Rattle.tp_store.specs.Contents.{Contents}
+use Rattle.tp_store.specs.Logged.{bindings_logged}
 use Rattle.tp_state.specs.Plain.{Plain}
 use Rattle.tp_state.specs.Undo.{Parts, Rooms, undone, CanUndo}
 
@@ -99,3 +103,12 @@ pub record Follows (old new : Held) : Type 0 where
   pub frames : Prolongs old.plain.frames new.plain.frames
   pub events : Prolongs old.plain.events new.plain.events
   pub safe : IsSafe old → IsSafe new
+
+-- A store has further cells, variables and bindings, and the log the entries of the bindings.
+pub record StoreGrows (old new : Contents) (before after : List Entry) : Type 0 where
+  pub more_cells : List Cell
+  pub more : Bindings
+  pub cells : new.cells ≡ old.cells ++ more_cells
+  pub pairs : new.pairs ≡ more ++ old.pairs
+  pub vars : old.vars ≤ new.vars
+  pub log : after ≡ before ++ bindings_logged more

@@ -18,8 +18,8 @@ use Rattle.tp_meaning.proofs.Turns.{total, Kept, kept-turned, total-start, total
 use Rattle.tp_parse.specs.declared.read.ReadTerm.{ReadTerm}
 use Rattle.tp_clauses.specs.Contents.{Contents}
 use Rattle.tp_engine.specs.declared.answers.AnswerFault.{AnswerFault}
-use Rattle.tp_engine.specs.declared.machine.Alt.{Alt}
-use Rattle.tp_engine.specs.declared.machine.Choice.{Choice}
+use Rattle.tp_control.specs.declared.choices.Alt.{Alt}
+use Rattle.tp_control.specs.declared.choices.Choice.{Choice}
 use Rattle.tp_engine.specs.declared.machine.Machine.{Machine}
 use Rattle.tp_engine.specs.declared.phase.Stepped.{Stepped}
 use Rattle.tp_engine.specs.declared.phase.Stepped.TheVariants as answer
@@ -73,9 +73,9 @@ last-append (x ∷ []) w n = refl
 last-append (x ∷ y ∷ xs) w n = last-append (y ∷ xs) w n
 
 -- a machine without choices
-state_alone : (m : Machine) → IsMachine m → m.choices.items ≡ [] → state_in m ≡ record { world = world_in m; choices = [] }
+state_alone : (m : Machine) → IsMachine m → m.choices ≡ [] → state_in m ≡ record { world = world_in m; choices = [] }
 state_alone m is none =
-    ap (λ (o : Option Alt). record { world = world_in m; choices = waiting_of (base_in m) (world_in m) m.stamp o ++ choices_of m.atoms (base_in m) m.choices.items }) is.going
+    ap (λ (o : Option Alt). record { world = world_in m; choices = waiting_of (base_in m) (world_in m) m.stamp o ++ choices_of m.atoms (base_in m) m.choices }) is.going
     ∙ ap (λ (cs : List Choice). record { world = world_in m; choices = choices_of m.atoms (base_in m) cs }) none
 
 module _ {A : Type 0} (takes : Takes A) (start : Machine) (k : ℕ) (first : A) where
@@ -91,7 +91,7 @@ module _ {A : Type 0} (takes : Takes A) (start : Machine) (k : ℕ) (first : A) 
 
   -- ---- the start
 
-  pub begins : IsMachine start → start.choices.items ≡ [] → start.stamp ≤ 0 → 0 < k → IsRun takes start k first start (record { steps = 0; found = 0; failed = 0; deadlock = 0; late = 0 }) first
+  pub begins : IsMachine start → start.choices ≡ [] → start.stamp ≤ 0 → 0 < k → IsRun takes start k first start (record { steps = 0; found = 0; failed = 0; deadlock = 0; late = 0 }) first
   begins is none stamp some = record {
     answers = [];
     count = refl;

@@ -8,19 +8,19 @@ use Rattle.tp_meaning.specs.Clauses.{predicate}
 use Rattle.tp_meaning.specs.Valid.{Valid}
 use Rattle.tp_store.specs.Contents.{seen}
 use Rattle.tp_clauses.specs.Contents.{base_of}
-use Rattle.tp_engine.specs.declared.frames.Item.{Item}
-use Rattle.tp_engine.specs.declared.frames.Item.TheVariants.{Goal}
-use Rattle.tp_engine.specs.declared.machine.Alt.TheVariants as alt
+use Rattle.tp_control.specs.declared.frames.Item.{Item}
+use Rattle.tp_control.specs.declared.frames.Item.TheVariants.{Goal}
+use Rattle.tp_control.specs.declared.choices.Alt.TheVariants as alt
 use Rattle.tp_engine.specs.declared.machine.Machine.{Machine}
-use Rattle.tp_engine.specs.declared.state.State.{State}
+use Rattle.tp_state.specs.declared.state.State.{State}
 use Rattle.tp_engine.specs.declared.task.Task.{Task}
 use Rattle.tp_engine.specs.declared.task.Call.{Call}
-use Rattle.tp_engine.specs.declared.machine.Choice.{Choice}
-use Rattle.tp_engine.specs.State.{plain_of}
-use Rattle.tp_engine.specs.Plain.{Plain, world_of}
-use Rattle.tp_engine.specs.Stands.{PlainStands}
+use Rattle.tp_control.specs.declared.choices.Choice.{Choice}
+use Rattle.tp_state.specs.State.{plain_of}
+use Rattle.tp_state.specs.Plain.{Plain, world_of}
+use Rattle.tp_state.specs.Stands.{PlainStands}
 use Rattle.tp_engine.specs.Untried.{untried}
-use Rattle.tp_engine.specs.Lists.{items_at}
+use Rattle.tp_control.specs.Lists.{items_at}
 use Rattle.tp_engine.specs.Heads.{hits}
 use Rattle.tp_engine.specs.Machine.{IsHit, Resumes, base_in, world_in}
 use Rattle.tp_engine.specs.Meets.{Calls, Hits, HasCurrent, IsCall, args_seen}

@@ -26,21 +26,21 @@ use Rattle.tp_store.specs.Contents.{Contents, IsStore, subst_of, seen}
 use Rattle.tp_store.proofs.StoreLemmas.{IsSubst-store}
 use Rattle.tp_clauses.specs.declared.base.ClauseView.{ClauseView}
 use Rattle.tp_clauses.specs.Contents.{clause_of}
-use Rattle.tp_engine.specs.declared.frames.Item.{Item}
-use Rattle.tp_engine.specs.declared.frames.Item.TheVariants.{Goal}
-use Rattle.tp_engine.specs.declared.machine.Alt.{Alt}
-use Rattle.tp_engine.specs.declared.machine.Alt.TheVariants as alt
+use Rattle.tp_control.specs.declared.frames.Item.{Item}
+use Rattle.tp_control.specs.declared.frames.Item.TheVariants.{Goal}
+use Rattle.tp_control.specs.declared.choices.Alt.{Alt}
+use Rattle.tp_control.specs.declared.choices.Alt.TheVariants as alt
 use Rattle.tp_engine.specs.declared.machine.Machine.{Machine}
-use Rattle.tp_engine.specs.declared.state.State.{State}
+use Rattle.tp_state.specs.declared.state.State.{State}
 use Rattle.tp_engine.specs.declared.phase.Stepped.TheVariants as answer
 use Rattle.tp_engine.specs.declared.task.Task.{Task}
 use Rattle.tp_engine.specs.declared.task.Call.{Call}
-use Rattle.tp_engine.specs.State.{plain_of}
+use Rattle.tp_state.specs.State.{plain_of}
 use Rattle.tp_engine.specs.Program.{head_term}
-use Rattle.tp_engine.specs.Lists.{items_at}
-use Rattle.tp_engine.specs.Plain.{Plain, item_of, items_of, world_of}
-use Rattle.tp_engine.specs.Stands.{PlainStands}
-use Rattle.tp_engine.specs.Acts.{resting, bodied}
+use Rattle.tp_control.specs.Lists.{items_at}
+use Rattle.tp_state.specs.Plain.{Plain, item_of, items_of, world_of}
+use Rattle.tp_state.specs.Stands.{PlainStands}
+use Rattle.tp_state.specs.Acts.{resting, bodied}
 use Rattle.tp_engine.specs.Heads.{unifier, hits, EntersClause}
 use Rattle.tp_engine.specs.Untried.{untried_by, untried_goal, untried_clauses}
 use Rattle.tp_engine.specs.Machine.{IsMachine, Steps, base_in, world_in, choices_of}
@@ -227,7 +227,7 @@ module _ (m : Machine) (t : Task) (c : Call) (h : Calls m t c None) where
     same = i.same;
     plain = i.plain;
     fits = i.fits;
-    kept = i.kept ∙ ap (λ ws. with_choice m.stamp (world_in m) ws (choices_of m.atoms (base_in m) m.choices.items)) (sym e);
+    kept = i.kept ∙ ap (λ ws. with_choice m.stamp (world_in m) ws (choices_of m.atoms (base_in m) m.choices)) (sym e);
   }
 
   pub kept_none : (n : ℕ) → IsMachine m → found_from m t c n ≡ None → IsKept m (alt.Clause n) m
@@ -235,7 +235,7 @@ module _ (m : Machine) (t : Task) (c : Call) (h : Calls m t c None) where
     same = refl;
     plain = refl;
     fits = is.choices;
-    kept = sym (ap (λ ws. with_choice m.stamp (world_in m) ws (choices_of m.atoms (base_in m) m.choices.items)) (none_untried n e));
+    kept = sym (ap (λ ws. with_choice m.stamp (world_in m) ws (choices_of m.atoms (base_in m) m.choices)) (none_untried n e));
   }
 
   -- ---- steps

@@ -22,17 +22,17 @@ use Rattle.tp_meaning.specs.Step.{goal_by}
 use Rattle.tp_meaning.specs.Machine as machine
 use Rattle.tp_meaning.proofs.OwnGoals.Counts.{fewest-fits}
 use Rattle.tp_store.specs.Contents.{Contents, seen}
-use Rattle.tp_engine.specs.declared.frames.Item.{Item}
-use Rattle.tp_engine.specs.declared.frames.Item.TheVariants.{Goal}
+use Rattle.tp_control.specs.declared.frames.Item.{Item}
+use Rattle.tp_control.specs.declared.frames.Item.TheVariants.{Goal}
 use Rattle.tp_engine.specs.declared.machine.Machine.{Machine}
-use Rattle.tp_engine.specs.declared.state.State.{State}
+use Rattle.tp_state.specs.declared.state.State.{State}
 use Rattle.tp_engine.specs.declared.phase.Stepped.TheVariants as answer
 use Rattle.tp_engine.specs.declared.task.Task.{Task}
 use Rattle.tp_engine.specs.declared.task.Call.{Call}
-use Rattle.tp_engine.specs.State.{plain_of}
-use Rattle.tp_engine.specs.Lists.{items_at}
-use Rattle.tp_engine.specs.Plain.{Plain, item_of, world_of}
-use Rattle.tp_engine.specs.Acts.{pushed, resting}
+use Rattle.tp_state.specs.State.{plain_of}
+use Rattle.tp_control.specs.Lists.{items_at}
+use Rattle.tp_state.specs.Plain.{Plain, item_of, world_of}
+use Rattle.tp_state.specs.Acts.{pushed, resting}
 use Rattle.tp_engine.specs.Machine.{IsMachine, Steps, base_in, world_in}
 use Rattle.tp_engine.specs.Meets.{Calls, IsUnknown, args_seen}
 use Rattle.tp_engine.specs.Goes.{Goes}

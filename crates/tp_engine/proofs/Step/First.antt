@@ -18,14 +18,14 @@ use Rattle.tp_meaning.proofs.Leaves.{runs-there}
 use Rattle.tp_meaning.proofs.Places.{get-at_place, length-at_place}
 use Rattle.tp_meaning.proofs.Complete.{count-replaced}
 use Rattle.tp_store.specs.Contents.{Contents, subst_of, seen}
-use Rattle.tp_engine.specs.declared.frames.Item.{Item}
-use Rattle.tp_engine.specs.declared.frames.Item.TheVariants.{Goal}
+use Rattle.tp_control.specs.declared.frames.Item.{Item}
+use Rattle.tp_control.specs.declared.frames.Item.TheVariants.{Goal}
 use Rattle.tp_engine.specs.declared.machine.Machine.{Machine}
 use Rattle.tp_engine.specs.declared.task.Task.{Task}
 use Rattle.tp_engine.specs.declared.task.Call.{Call}
-use Rattle.tp_engine.specs.State.{plain_of}
-use Rattle.tp_engine.specs.Lists.{items_at}
-use Rattle.tp_engine.specs.Plain.{Plain, item_of, items_of, process_of, with_running, processes_of, world_of}
+use Rattle.tp_state.specs.State.{plain_of}
+use Rattle.tp_control.specs.Lists.{items_at}
+use Rattle.tp_state.specs.Plain.{Plain, item_of, items_of, process_of, with_running, processes_of, world_of}
 use Rattle.tp_engine.specs.Machine.{IsMachine, IsStanding, base_in, world_in}
 use Rattle.tp_engine.specs.Meets.{HasFirst, Meets, Calls, args_seen}
 
@@ -46,7 +46,7 @@ running-below names p r d v e =
 pub standing : (m : Machine) → IsMachine m → IsStanding m
 standing m is = record { program = is.program; stands = is.stands; valid = is.worlds.world.valid }
 
-pub process_there : (m : Machine) (r : ℕ) → IsStanding m → m.state.running ≡ Some r → r < length m.state.procs.items
+pub process_there : (m : Machine) (r : ℕ) → IsStanding m → m.state.running ≡ Some r → r < length m.state.procs
 process_there m r is e = running-below m.atoms (plain_of m.state) r m.stamp is.valid e
 
 pub there : {A : Type 0} (n : ℕ) (xs : List A) → n < length xs → (x : A) × (slice_get xs n ≡ Some x)

@@ -17,16 +17,16 @@ use Rattle.tp_meaning.specs.Search as search
 use Rattle.tp_meaning.specs.Step.{step, item_step}
 use Rattle.tp_meaning.specs.Machine.{cut_from}
 use Rattle.tp_store.specs.Contents.{seen}
-use Rattle.tp_engine.specs.declared.frames.Item.TheVariants.{Goal, Commit, Retry}
-use Rattle.tp_engine.specs.declared.machine.Alt.TheVariants.{Second}
+use Rattle.tp_control.specs.declared.frames.Item.TheVariants.{Goal, Commit, Retry}
+use Rattle.tp_control.specs.declared.choices.Alt.TheVariants.{Second}
 use Rattle.tp_engine.specs.declared.machine.Machine.{Machine}
-use Rattle.tp_engine.specs.declared.state.State.{State}
+use Rattle.tp_state.specs.declared.state.State.{State}
 use Rattle.tp_engine.specs.declared.phase.Stepped.TheVariants as answer
-use Rattle.tp_engine.specs.State.{plain_of}
-use Rattle.tp_engine.specs.Lists.{items_at}
-use Rattle.tp_engine.specs.Plain.{Plain, item_of, items_of, world_of}
-use Rattle.tp_engine.specs.Stands.{PlainStands}
-use Rattle.tp_engine.specs.Acts.{pushed, resting, noted, left, mark_others}
+use Rattle.tp_state.specs.State.{plain_of}
+use Rattle.tp_control.specs.Lists.{items_at}
+use Rattle.tp_state.specs.Plain.{Plain, item_of, items_of, world_of}
+use Rattle.tp_state.specs.Stands.{PlainStands}
+use Rattle.tp_state.specs.Acts.{pushed, resting, noted, left, mark_others}
 use Rattle.tp_engine.specs.Untried.{untried_by, second_of}
 use Rattle.tp_engine.specs.Machine.{IsMachine, Steps, Resumes, base_in, world_in, choices_of, IsAgain}
 use Rattle.tp_engine.specs.Meets.{Runs, HasFirst}
@@ -40,7 +40,7 @@ use Rattle.tp_engine.proofs.Step.Control.{other-to}
 -- ---- the end
 
 pub ends : (m : Machine) (r : ℕ) (s1 s2 s3 : State) → Runs m r → m.state.items ≡ None
-    → ((q : Proc) → slice_get m.state.procs.items r ≡ Some q → plain_of s1 ≡ left r q Ended (plain_of m.state))
+    → ((q : Proc) → slice_get m.state.procs r ≡ Some q → plain_of s1 ≡ left r q Ended (plain_of m.state))
     → plain_of s2 ≡ noted r event.End (plain_of s1) → plain_of s3 ≡ record (plain_of s2) { procs = mark_others r (plain_of s2).procs }
     → Steps m (record m { state = s3; stamp = m.stamp + 1 }) answer.Went
 ends m r s1 s2 s3 h none e1 e2 e3 =
@@ -48,14 +48,14 @@ ends m r s1 s2 s3 h none e1 e2 e3 =
     let names = m.atoms in
     let p = plain_of m.state in
     let lt = process_there m r (standing m is) h.running in
-    let q = there r m.state.procs.items lt in
+    let q = there r m.state.procs lt in
     let p1 = left r q.0 Ended p in
     let is1 : plain_of s1 ≡ left r q.0 Ended (plain_of m.state) = e1 q.0 q.1 in
     let is2 : plain_of s2 ≡ noted r event.End (left r q.0 Ended (plain_of m.state)) = e2 ∙ ap (noted r event.End) is1 in
     let is3 : plain_of s3 ≡ record (noted r event.End (left r q.0 Ended (plain_of m.state))) { procs = mark_others r (left r q.0 Ended (plain_of m.state)).procs } = e3 ∙ ap (λ (x : Plain). record x { procs = mark_others r x.procs }) is2 in
     let st1 = left-stands names p r q.0 Ended is.stands q.1 in
     let y : Proc = record q.0 { status = Ended; items = p.items } in
-    let st2 = noted-stands names p1 r event.End st1 (omega (arith, lt, length-set m.state.procs.items r y)) tt in
+    let st2 = noted-stands names p1 r event.End st1 (omega (arith, lt, length-set m.state.procs r y)) tt in
     let st3 = marked-stands names (noted r event.End p1) r st2 in
     let w = world_in m in
     to_one m (record m { state = s3; stamp = m.stamp + 1 }) is
@@ -72,7 +72,7 @@ ends m r s1 s2 s3 h none e1 e2 e3 =
 -- ---- a commit
 
 pub commits : (m new : Machine) (r c n : ℕ) (rest : Option ItemId) → IsMachine m → HasFirst m r (Commit c) rest → new ≡ record m { state = new.state; choices = new.choices; stamp = new.stamp } → new.stamp ≡ m.stamp + 1 → plain_of new.state ≡ resting rest (plain_of m.state)
-    → choices_of m.atoms (base_in m) new.choices.items ≡ cut_from c (choices_of m.atoms (base_in m) m.choices.items) → new.choices.items ≡ take n m.choices.items → Steps m new answer.Went
+    → choices_of m.atoms (base_in m) new.choices ≡ cut_from c (choices_of m.atoms (base_in m) m.choices) → new.choices ≡ take n m.choices → Steps m new answer.Went
 commits m new r c n rest is h same stamp e cut first =
     let p = plain_of m.state in
     let o = subst (OtherItems m.atoms p) (sym e) (other-rest m.atoms p rest h.rest) in
@@ -145,14 +145,14 @@ module _ (m : Machine) (r : ℕ) (g : Ref) (rest : Option ItemId) (is : IsMachin
 
 -- the process goes on waiting
 pub waits_again : (m : Machine) (s : State) (a : IsAgain (plain_of m.state)) → IsMachine m
-    → ((q : Proc) → slice_get m.state.procs.items a.process ≡ Some q → plain_of s ≡ left a.process q (Parked false) (plain_of m.state))
+    → ((q : Proc) → slice_get m.state.procs a.process ≡ Some q → plain_of s ≡ left a.process q (Parked false) (plain_of m.state))
     → Goes m (record m { state = s; stamp = m.stamp + 1 }) × (untried_in m Second ≡ world_in (record m { state = s; stamp = m.stamp + 1 }) ∷ [])
 waits_again m s a is e =
     let names = m.atoms in
     let p = plain_of m.state in
     let r = a.process in
     let lt = process_there m r (standing m is) a.running in
-    let q = there r m.state.procs.items lt in
+    let q = there r m.state.procs lt in
     let here = e q.0 q.1 in
     let t : Rattle.tp_meaning.specs.Turn.Turn = record { world = world_in m; process = r; rest = map (item_of names m.state.store) a.rest } in
     let g = seen names m.state.store a.goal.at in
@@ -175,9 +175,9 @@ waits_again m s a is e =
 
 -- the machine goes on so
 pub goes_on_waiting : (m : Machine) (s : State) (r : ℕ) → Returns m Second → m.state.running ≡ Some r
-    → ((q : Proc) → slice_get m.state.procs.items r ≡ Some q → plain_of s ≡ left r q (Parked false) (plain_of m.state)) → Resumes (record m { waiting = Some Second }) (record m { state = s; stamp = m.stamp + 1 })
+    → ((q : Proc) → slice_get m.state.procs r ≡ Some q → plain_of s ≡ left r q (Parked false) (plain_of m.state)) → Resumes (record m { waiting = Some Second }) (record m { state = s; stamp = m.stamp + 1 })
 goes_on_waiting m s r back run e =
     let a = back.goes_on in
     let same : r ≡ a.process = (let z : Some r ≡ Some a.process = sym run ∙ a.running in cc) in
-    let w = waits_again m s a back.machine (subst (λ n. (q : Proc) → slice_get m.state.procs.items n ≡ Some q → plain_of s ≡ left n q (Parked false) (plain_of m.state)) same e) in
+    let w = waits_again m s a back.machine (subst (λ n. (q : Proc) → slice_get m.state.procs n ≡ Some q → plain_of s ≡ left n q (Parked false) (plain_of m.state)) same e) in
     resumes m m (record m { state = s; stamp = m.stamp + 1 }) Second [] back (record { same = refl; plain = refl; fits = back.machine.choices; kept = refl }) w.0 w.1

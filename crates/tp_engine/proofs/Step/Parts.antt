@@ -20,16 +20,16 @@ use Rattle.tp_meaning.proofs.Holds.{Holds, ChoiceHolds, Stands, stepped-stands, 
 use Rattle.tp_parse.specs.declared.read.ReadTerm.{ReadTerm}
 use Rattle.tp_clauses.specs.Contents as kept
 use Rattle.tp_clauses.specs.Contents.{IsBase, base_of}
-use Rattle.tp_engine.specs.declared.machine.Alt.{Alt}
-use Rattle.tp_engine.specs.declared.machine.Choice.{Choice}
+use Rattle.tp_control.specs.declared.choices.Alt.{Alt}
+use Rattle.tp_control.specs.declared.choices.Choice.{Choice}
 use Rattle.tp_engine.specs.declared.machine.Machine.{Machine}
-use Rattle.tp_engine.specs.declared.state.State as code
+use Rattle.tp_state.specs.declared.state.State as code
 use Rattle.tp_engine.specs.declared.phase.Stepped.{Stepped}
 use Rattle.tp_engine.specs.declared.phase.Stepped.TheVariants as answer
 use Rattle.tp_store.specs.Contents.{seen}
-use Rattle.tp_engine.specs.State.{plain_of}
-use Rattle.tp_engine.specs.Plain.{Plain, world_of}
-use Rattle.tp_engine.specs.Stands.{PlainStands}
+use Rattle.tp_state.specs.State.{plain_of}
+use Rattle.tp_state.specs.Plain.{Plain, world_of}
+use Rattle.tp_state.specs.Stands.{PlainStands}
 use Rattle.tp_engine.specs.Program.{GoalFits}
 use Rattle.tp_engine.specs.Machine.{IsProgram, ChoiceFits, GoesOn, choice_of, open_at, waiting_of, IsMachine, Steps, Resumes, ErrorStands, base_in, world_in, state_in, choices_of, answer_by}
 use Rattle.tp_engine.specs.Goes.{KeepsWorlds, IsKept, MayKeep, Goes, Returns, untried_in}
@@ -37,8 +37,8 @@ use Rattle.tp_engine.proofs.Program.{base_fits}
 use Rattle.tp_engine.proofs.Worlds.Names.{base-later, choices-later, choice-later}
 
 -- the machine's state, where it didn't go back
-pub state_is : (m : Machine) → m.waiting ≡ None → state_in m ≡ record { world = world_in m; choices = choices_of m.atoms (base_in m) m.choices.items }
-state_is m e = ap (λ o. record { world = world_in m; choices = waiting_of (base_in m) (world_in m) m.stamp o ++ choices_of m.atoms (base_in m) m.choices.items }) e
+pub state_is : (m : Machine) → m.waiting ≡ None → state_in m ≡ record { world = world_in m; choices = choices_of m.atoms (base_in m) m.choices }
+state_is m e = ap (λ o. record { world = world_in m; choices = waiting_of (base_in m) (world_in m) m.stamp o ++ choices_of m.atoms (base_in m) m.choices }) e
 
 -- a machine that goes on from another by a step, with these choices
 pub record Follows (old new : Machine) (r : Stepped) : Type 0 where
@@ -49,10 +49,10 @@ pub record Follows (old new : Machine) (r : Stepped) : Type 0 where
   pub names : Grows old.atoms new.atoms
   pub table : IsTable new.atoms
   pub stands : PlainStands new.atoms (plain_of new.state)
-  pub choices : All (ChoiceFits old.atoms (base_in old)) new.choices.items
+  pub choices : All (ChoiceFits old.atoms (base_in old)) new.choices
   pub bound : new.stamp ≤ old.stamp + 1
   pub place : ErrorStands new r
-  pub step : (answer_by new r, record { world = world_in new; choices = choices_of old.atoms (base_in old) new.choices.items }) ≡ stepped (searched (base_in old)) (state_in old)
+  pub step : (answer_by new r, record { world = world_in new; choices = choices_of old.atoms (base_in old) new.choices }) ≡ stepped (searched (base_in old)) (state_in old)
 
 -- the base means the same under a longer table
 pub meaning : (old new : Machine) → IsProgram old → new.base.now ≡ old.base.now → Grows old.atoms new.atoms → base_in new ≡ base_in old
@@ -78,9 +78,9 @@ steps old new r f =
     let x = searched (base_in old) in
     let p = f.is.program in
     let same : base_in new ≡ base_in old = meaning old new p f.base f.names in
-    let later = choices-later old.atoms new.atoms f.names (base_in old) new.choices.items f.choices in
-    let here : state_in new ≡ record { world = world_in new; choices = choices_of old.atoms (base_in old) new.choices.items } =
-    state_is new f.waiting ∙ ap (λ b. record { world = world_in new; choices = choices_of new.atoms b new.choices.items }) same ∙ ap (λ cs. record { world = world_in new; choices = cs }) later in
+    let later = choices-later old.atoms new.atoms f.names (base_in old) new.choices f.choices in
+    let here : state_in new ≡ record { world = world_in new; choices = choices_of old.atoms (base_in old) new.choices } =
+    state_is new f.waiting ∙ ap (λ b. record { world = world_in new; choices = choices_of new.atoms b new.choices }) same ∙ ap (λ cs. record { world = world_in new; choices = cs }) later in
     let e : (answer_by new r, state_in new) ≡ stepped x (state_in old) = ap (λ (s : State World). (answer_by new r, s)) here ∙ f.step in
     let fits = base_fits old p in
     let rises = step-rises (base_in old) (world_in old) fits f.is.worlds.world.valid in
@@ -89,7 +89,7 @@ steps old new r f =
         going = f.waiting;
         program = program-later old new p f.base f.goal f.names f.table;
         stands = f.stands;
-        choices = subst (λ b. All (ChoiceFits new.atoms b) new.choices.items) (sym same) (λ k d lt. choice-later old.atoms new.atoms f.names (base_in old) _ (f.choices k d lt));
+        choices = subst (λ b. All (ChoiceFits new.atoms b) new.choices) (sym same) (λ k d lt. choice-later old.atoms new.atoms f.names (base_in old) _ (f.choices k d lt));
         worlds = subst (λ (g : ReadTerm). Holds (Stands g.vars) (state_in new)) (sym f.goal) (subst (Holds (Stands old.goal.now.vars)) (sym (ap (λ (q : machine.Stepped Term × State World). q.1) e)) (stepped-stands (base_in old) old.goal.now.vars (state_in old) fits f.is.worlds));
         stack = subst (λ b. HasStack (searched b) (state_in new)) (sym same) (subst (HasStack x) (sym (ap (λ (q : machine.Stepped Term × State World). q.1) e)) (stepped-stack x (state_in old) rises f.is.stack));
       };
@@ -116,7 +116,7 @@ to_one old new is g h = steps old new answer.Went (record {
   bound = omega (arith, g.stamp);
   place = tt;
   step = ap (λ (cs : Vec Choice Global). (Went, record { world = world_in new; choices = choices_of old.atoms (base_in old) cs.items })) (ap (λ (m : Machine). m.choices) g.same)
-      ∙ sym (ap (stepped (searched (base_in old))) (state_is old is.going) ∙ ap (λ s. stepped_by (searched (base_in old)) s (record { world = world_in old; choices = choices_of old.atoms (base_in old) old.choices.items })) h);
+      ∙ sym (ap (stepped (searched (base_in old))) (state_is old is.going) ∙ ap (λ s. stepped_by (searched (base_in old)) s (record { world = world_in old; choices = choices_of old.atoms (base_in old) old.choices })) h);
 })
 
 -- to a world after a choice was kept
@@ -134,7 +134,7 @@ to_branch old mid new next is k g h = steps old new answer.Went (record {
   place = tt;
   step = ap (λ (cs : Vec Choice Global). (Went, record { world = world_in new; choices = choices_of old.atoms (base_in old) cs.items })) (ap (λ (m : Machine). m.choices) g.same)
       ∙ ap (λ cs. (Went, record { world = world_in new; choices = cs })) k.kept
-      ∙ sym (ap (stepped (searched (base_in old))) (state_is old is.going) ∙ ap (λ s. stepped_by (searched (base_in old)) s (record { world = world_in old; choices = choices_of old.atoms (base_in old) old.choices.items })) h);
+      ∙ sym (ap (stepped (searched (base_in old))) (state_is old is.going) ∙ ap (λ s. stepped_by (searched (base_in old)) s (record { world = world_in old; choices = choices_of old.atoms (base_in old) old.choices })) h);
 })
 
 -- a dead end, or the end
@@ -150,7 +150,7 @@ to_none m r a g is ea place h e = record {
 
 -- a commit to a stamp, after the choices from it on were removed
 pub to_commit : (old new : Machine) (c n : ℕ) → IsMachine old → new ≡ record old { state = new.state; choices = new.choices; stamp = new.stamp } → new.stamp ≡ old.stamp + 1 → PlainStands old.atoms (plain_of new.state)
-    → choices_of old.atoms (base_in old) new.choices.items ≡ cut_from c (choices_of old.atoms (base_in old) old.choices.items) → new.choices.items ≡ take n old.choices.items
+    → choices_of old.atoms (base_in old) new.choices ≡ cut_from c (choices_of old.atoms (base_in old) old.choices) → new.choices ≡ take n old.choices
     → step (base_in old) (world_in old) ≡ search.Commit c (world_of old.atoms (plain_of new.state) new.stamp) → Steps old new answer.Went
 to_commit old new c n is same stamp stands cut first h = steps old new answer.Went (record {
   is = is;
@@ -160,12 +160,12 @@ to_commit old new c n is same stamp stands cut first h = steps old new answer.We
   names = subst (λ (ns : List Name). Grows old.atoms ns) (sym atoms) (Grows-same old.atoms);
   table = subst IsTable (sym atoms) is.program.table;
   stands = subst (λ (ns : List Name). PlainStands ns (plain_of new.state)) (sym atoms) stands;
-  choices = subst (All (ChoiceFits old.atoms (base_in old))) (sym first) (All-take (ChoiceFits old.atoms (base_in old)) n old.choices.items is.choices);
+  choices = subst (All (ChoiceFits old.atoms (base_in old))) (sym first) (All-take (ChoiceFits old.atoms (base_in old)) n old.choices is.choices);
   bound = omega (arith, stamp);
   place = tt;
-  step = ap (λ (ns : List Name). (Went, record { world = world_of ns (plain_of new.state) new.stamp; choices = choices_of old.atoms (base_in old) new.choices.items })) atoms
+  step = ap (λ (ns : List Name). (Went, record { world = world_of ns (plain_of new.state) new.stamp; choices = choices_of old.atoms (base_in old) new.choices })) atoms
       ∙ ap (λ cs. (Went, record { world = world_of old.atoms (plain_of new.state) new.stamp; choices = cs })) cut
-      ∙ sym (ap (stepped (searched (base_in old))) (state_is old is.going) ∙ ap (λ s. stepped_by (searched (base_in old)) s (record { world = world_in old; choices = choices_of old.atoms (base_in old) old.choices.items })) h);
+      ∙ sym (ap (stepped (searched (base_in old))) (state_is old is.going) ∙ ap (λ s. stepped_by (searched (base_in old)) s (record { world = world_in old; choices = choices_of old.atoms (base_in old) old.choices })) h);
 })
   where
     atoms : new.atoms ≡ old.atoms
@@ -185,10 +185,10 @@ to_raise m new place e is same stands w shown within h = steps m new (answer.Rai
   choices = subst (λ (cs : Vec Choice Global). All (ChoiceFits m.atoms (base_in m)) cs.items) (sym (ap (λ (q : Machine). q.choices) same)) is.choices;
   bound = omega (arith, ap (λ (q : Machine). q.stamp) same);
   place = within;
-  step = ap (λ (q : Machine). (machine.Raised (seen q.atoms new.state.store place.at), record { world = world_of q.atoms (plain_of new.state) q.stamp; choices = choices_of m.atoms (base_in m) q.choices.items })) same
-      ∙ ap (λ t. (machine.Raised t, record { world = world_of m.atoms (plain_of new.state) m.stamp; choices = choices_of m.atoms (base_in m) m.choices.items })) shown
-      ∙ ap (λ v. (machine.Raised e, record { world = v; choices = choices_of m.atoms (base_in m) m.choices.items })) w
-      ∙ sym (ap (stepped (searched (base_in m))) (state_is m is.going) ∙ ap (λ s. stepped_by (searched (base_in m)) s (record { world = world_in m; choices = choices_of m.atoms (base_in m) m.choices.items })) h);
+  step = ap (λ (q : Machine). (machine.Raised (seen q.atoms new.state.store place.at), record { world = world_of q.atoms (plain_of new.state) q.stamp; choices = choices_of m.atoms (base_in m) q.choices })) same
+      ∙ ap (λ t. (machine.Raised t, record { world = world_of m.atoms (plain_of new.state) m.stamp; choices = choices_of m.atoms (base_in m) m.choices })) shown
+      ∙ ap (λ v. (machine.Raised e, record { world = v; choices = choices_of m.atoms (base_in m) m.choices })) w
+      ∙ sym (ap (stepped (searched (base_in m))) (state_is m is.going) ∙ ap (λ s. stepped_by (searched (base_in m)) s (record { world = world_in m; choices = choices_of m.atoms (base_in m) m.choices })) h);
 })
   where
     atoms : new.atoms ≡ m.atoms
@@ -200,17 +200,17 @@ resumes m mid new next more back k g e =
     let is = back.machine in
     let x = searched (base_in m) in
     let w = world_in m in
-    let cs = choices_of m.atoms (base_in m) m.choices.items in
+    let cs = choices_of m.atoms (base_in m) m.choices in
     let eb : new.base.now ≡ m.base.now = ap (λ (q : Machine). q.base.now) g.same ∙ ap (λ (q : Machine). q.base.now) k.same in
     let eg : new.goal.now ≡ m.goal.now = ap (λ (q : Machine). q.goal.now) g.same ∙ ap (λ (q : Machine). q.goal.now) k.same in
     let grows : Grows m.atoms new.atoms = subst (λ (ns : List Name). Grows ns new.atoms) (ap (λ (q : Machine). q.atoms) k.same) g.names in
     let waiting : new.waiting ≡ None = ap (λ (q : Machine). q.waiting) g.same ∙ ap (λ (q : Machine). q.waiting) k.same ∙ is.going in
     let same : base_in new ≡ base_in m = meaning m new is.program eb grows in
-    let fits : All (ChoiceFits m.atoms (base_in m)) new.choices.items = subst (λ (ds : Vec Choice Global). All (ChoiceFits m.atoms (base_in m)) ds.items) (sym (ap (λ (q : Machine). q.choices) g.same)) k.fits in
-    let later = choices-later m.atoms new.atoms grows (base_in m) new.choices.items fits in
-    let kept : choices_of m.atoms (base_in m) new.choices.items ≡ with_choice m.stamp w more cs = ap (λ (ds : Vec Choice Global). choices_of m.atoms (base_in m) ds.items) (ap (λ (q : Machine). q.choices) g.same) ∙ k.kept in
+    let fits : All (ChoiceFits m.atoms (base_in m)) new.choices = subst (λ (ds : Vec Choice Global). All (ChoiceFits m.atoms (base_in m)) ds.items) (sym (ap (λ (q : Machine). q.choices) g.same)) k.fits in
+    let later = choices-later m.atoms new.atoms grows (base_in m) new.choices fits in
+    let kept : choices_of m.atoms (base_in m) new.choices ≡ with_choice m.stamp w more cs = ap (λ (ds : Vec Choice Global). choices_of m.atoms (base_in m) ds.items) (ap (λ (q : Machine). q.choices) g.same) ∙ k.kept in
     let here : state_in new ≡ record { world = world_in new; choices = with_choice m.stamp w more cs } =
-    state_is new waiting ∙ ap (λ b. record { world = world_in new; choices = choices_of new.atoms b new.choices.items }) same ∙ ap (λ ds. record { world = world_in new; choices = ds }) (later ∙ kept) in
+    state_is new waiting ∙ ap (λ b. record { world = world_in new; choices = choices_of new.atoms b new.choices }) same ∙ ap (λ ds. record { world = world_in new; choices = ds }) (later ∙ kept) in
     let old : state_in (record m { waiting = Some next }) ≡ record { world = w; choices = record { stamp = m.stamp; world = w; untried = world_in new ∷ more } ∷ cs } =
     ap (λ ws. record { world = w; choices = record { stamp = m.stamp; world = w; untried = ws } ∷ cs }) e in
     let resumed_is : state_in new ≡ machine.resumed (state_in (record m { waiting = Some next })) = here ∙ sym (ap machine.resumed old) in
@@ -224,7 +224,7 @@ resumes m mid new next more back k g e =
         going = waiting;
         program = program-later m new is.program eb eg grows g.table;
         stands = g.stands;
-        choices = subst (λ b. All (ChoiceFits new.atoms b) new.choices.items) (sym same) (λ k' d lt. choice-later m.atoms new.atoms grows (base_in m) _ (fits k' d lt));
+        choices = subst (λ b. All (ChoiceFits new.atoms b) new.choices) (sym same) (λ k' d lt. choice-later m.atoms new.atoms grows (base_in m) _ (fits k' d lt));
         worlds = subst (λ (q : ReadTerm). Holds (Stands q.vars) (state_in new)) (sym eg) (subst (Holds (Stands m.goal.now.vars)) (sym here) (record {
           world = these.0;
           choices = with-hold m.goal.now.vars m.stamp w more cs is.worlds.world these.1 rest.choices;
@@ -244,7 +244,7 @@ resumes m mid new next more back k g e =
 
 -- ---- a choice that is kept
 
-pub keeps : (m : Machine) (next : Alt) (s : code.State) (new : Vec Choice Global) → MayKeep m next → plain_of s ≡ plain_of m.state → new.items ≡ m.choices.items ++ record { stamp = m.stamp; state = s; next = next } ∷ [] → IsKept m next (record m { choices = new })
+pub keeps : (m : Machine) (next : Alt) (s : code.State) (new : Vec Choice Global) → MayKeep m next → plain_of s ≡ plain_of m.state → new.items ≡ m.choices ++ record { stamp = m.stamp; state = s; next = next } ∷ [] → IsKept m next (record m { choices = new })
 keeps m next s new may e items =
     let c : Choice = record { stamp = m.stamp; state = s; next = next } in
     let P = ChoiceFits m.atoms (base_in m) in
@@ -253,10 +253,10 @@ keeps m next s new may e items =
     record {
       same = refl;
       plain = refl;
-      fits = subst (All P) (sym items) (All-push P m.choices.items c may.choices fits);
-      kept = ap (choices_of m.atoms (base_in m)) items ∙ ap (map (choice_of m.atoms (base_in m))) (reverse-append m.choices.items (c ∷ []))
-          ∙ ap (λ k. k ∷ choices_of m.atoms (base_in m) m.choices.items) open_is
-          ∙ sym (with_left m.stamp (world_in m) (untried_in m next) (choices_of m.atoms (base_in m) m.choices.items) may.left);
+      fits = subst (All P) (sym items) (All-push P m.choices c may.choices fits);
+      kept = ap (choices_of m.atoms (base_in m)) items ∙ ap (map (choice_of m.atoms (base_in m))) (reverse-append m.choices (c ∷ []))
+          ∙ ap (λ k. k ∷ choices_of m.atoms (base_in m) m.choices) open_is
+          ∙ sym (with_left m.stamp (world_in m) (untried_in m next) (choices_of m.atoms (base_in m) m.choices) may.left);
     }
   where
     with_left : (d : ℕ) (w : World) (ws : List World) (cs : List (machine.Choice World)) → 0 < length ws → with_choice d w ws cs ≡ record { stamp = d; world = w; untried = ws } ∷ cs

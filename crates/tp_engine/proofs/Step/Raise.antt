@@ -21,12 +21,12 @@ use Rattle.tp_store.specs.Contents.{subst_of}
 use Rattle.tp_engine.specs.declared.errors.Cause.{Cause}
 use Rattle.tp_engine.specs.declared.errors.Cause.TheVariants as cause
 use Rattle.tp_engine.specs.declared.machine.Machine.{Machine}
-use Rattle.tp_engine.specs.declared.state.State.{State}
+use Rattle.tp_state.specs.declared.state.State.{State}
 use Rattle.tp_engine.specs.declared.phase.Stepped.TheVariants as answer
 use Rattle.tp_engine.specs.declared.task.Task.{Task}
-use Rattle.tp_engine.specs.State.{plain_of}
-use Rattle.tp_engine.specs.Plain.{Plain, items_of, process_of, with_running, world_of}
-use Rattle.tp_engine.specs.Stands.{PlainStands}
+use Rattle.tp_state.specs.State.{plain_of}
+use Rattle.tp_state.specs.Plain.{Plain, items_of, process_of, with_running, world_of}
+use Rattle.tp_state.specs.Stands.{PlainStands}
 use Rattle.tp_engine.specs.Built.{Built}
 use Rattle.tp_engine.specs.Causes.{kind_term, CauseStands}
 use Rattle.tp_engine.specs.Machine.{IsMachine, Steps, base_in, world_in}
@@ -38,17 +38,17 @@ use Rattle.tp_engine.proofs.Step.Parts.{to_raise}
 
 module _ (m : Machine) (t : Task) (is : IsMachine m) (h : Meets m t) where
   -- the name of the running process
-  pub name-is : (q : Proc) → slice_get m.state.procs.items t.process ≡ Some q → world.name_at (world_in m).processes t.process ≡ name_at m.atoms q.name.at
+  pub name-is : (q : Proc) → slice_get m.state.procs t.process ≡ Some q → world.name_at (world_in m).processes t.process ≡ name_at m.atoms q.name.at
   name-is q e =
       let is = items_of m.atoms (plain_of m.state) m.state.items in
-      let rows = map (process_of m.atoms (plain_of m.state)) m.state.procs.items in
+      let rows = map (process_of m.atoms (plain_of m.state)) m.state.procs in
       ap (λ o. world.name_at (with_running o is rows) t.process) h.running
       ∙ ap (λ o. elim o as (λ _. Name) [ None ↦ [] | Some x ↦ x.name ])
       (get-at_place (λ (x : world.Process). record x { items = is }) t.process rows
-      ∙ ap (option_map (λ (x : world.Process). record x { items = is })) (slice_get-map (process_of m.atoms (plain_of m.state)) m.state.procs.items t.process ∙ ap (option_map (process_of m.atoms (plain_of m.state))) e))
+      ∙ ap (option_map (λ (x : world.Process). record x { items = is })) (slice_get-map (process_of m.atoms (plain_of m.state)) m.state.procs t.process ∙ ap (option_map (process_of m.atoms (plain_of m.state))) e))
 
-  pub name_stands : (q : Proc) → slice_get m.state.procs.items t.process ≡ Some q → q.name.at < length m.atoms
-  name_stands q e = (all-get _ m.state.procs.items t.process q e is.stands.procs).name
+  pub name_stands : (q : Proc) → slice_get m.state.procs t.process ≡ Some q → q.name.at < length m.atoms
+  name_stands q e = (all-get _ m.state.procs t.process q e is.stands.procs).name
 
   -- a goal that raises
   raises-by : (why : Cause) → IsCause m t why → step (base_in m) (world_in m) ≡ search.Raise (error (kind_term m.atoms why) (world.name_at (world_in m).processes t.process))
@@ -70,7 +70,7 @@ module _ (m : Machine) (t : Task) (is : IsMachine m) (h : Meets m t) where
   closed (cause.Number value) u n = refl
   closed (cause.Unknown name count) u n = refl
 
-  pub raises : (s : State) (place : Ref) (why : Cause) (q : Proc) → IsCause m t why → slice_get m.state.procs.items t.process ≡ Some q → plain_of s ≡ record (plain_of m.state) { store = s.store }
+  pub raises : (s : State) (place : Ref) (why : Cause) (q : Proc) → IsCause m t why → slice_get m.state.procs t.process ≡ Some q → plain_of s ≡ record (plain_of m.state) { store = s.store }
       → Built m.atoms m.state.store s.store place.at (error (kind_term m.atoms why) (name_at m.atoms q.name.at)) → Steps m (record m { state = s }) (answer.Raised place)
   raises s place why q c e same b =
       let names = m.atoms in
@@ -91,11 +91,11 @@ module _ (m : Machine) (t : Task) (is : IsMachine m) (h : Meets m t) where
       (raises-by why c ∙ ap (λ n. search.Raise (error (kind_term names why) n)) (name-is q e))
 
   -- with the name of the running process, as it was looked up
-  pub raises_with : (s : State) (place : Ref) (why : Cause) (process : AtomId) → IsCause m t why → ((q : Proc) → slice_get m.state.procs.items t.process ≡ Some q → process ≡ q.name)
+  pub raises_with : (s : State) (place : Ref) (why : Cause) (process : AtomId) → IsCause m t why → ((q : Proc) → slice_get m.state.procs t.process ≡ Some q → process ≡ q.name)
       → ((names : List Name) → IsTable names → AreNamed (length names) m.state.store.cells → CauseStands names why → process.at < length names → Built names m.state.store s.store place.at (error (kind_term names why) (name_at names process.at)))
       → plain_of s ≡ record (plain_of m.state) { store = s.store } → Steps m (record m { state = s }) (answer.Raised place)
   raises_with s place why process c named built same =
-      let q = there t.process m.state.procs.items (process_there m t.process h.standing h.running) in
+      let q = there t.process m.state.procs (process_there m t.process h.standing h.running) in
       let e : process ≡ q.0.name = named q.0 q.1 in
       raises s place why q.0 c q.1 same
       (subst (λ (a : AtomId). Built m.atoms m.state.store s.store place.at (error (kind_term m.atoms why) (name_at m.atoms a.at))) e

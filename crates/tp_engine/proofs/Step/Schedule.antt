@@ -25,12 +25,12 @@ use Rattle.tp_meaning.specs.Valid.{SlotFits}
 use Rattle.tp_meaning.specs.Step.{step, item_step}
 use Rattle.tp_meaning.specs.Machine as machine
 use Rattle.tp_engine.specs.declared.machine.Machine.{Machine}
-use Rattle.tp_engine.specs.declared.state.State.{State}
+use Rattle.tp_state.specs.declared.state.State.{State}
 use Rattle.tp_engine.specs.declared.phase.Stepped.TheVariants as answer
-use Rattle.tp_engine.specs.State.{plain_of}
-use Rattle.tp_engine.specs.Plain.{Plain, items_of, process_of, with_running, slot_of, world_of}
-use Rattle.tp_engine.specs.Stands.{PlainStands}
-use Rattle.tp_engine.specs.Acts.{IsNextTime, ran, noted, begun, opened, is_marked, is_live, is_late}
+use Rattle.tp_state.specs.State.{plain_of}
+use Rattle.tp_state.specs.Plain.{Plain, items_of, process_of, with_running, slot_of, world_of}
+use Rattle.tp_state.specs.Stands.{PlainStands}
+use Rattle.tp_state.specs.Acts.{IsNextTime, ran, noted, begun, opened, is_marked, is_live, is_late}
 use Rattle.tp_engine.specs.Machine.{Steps, base_in, world_in}
 use Rattle.tp_engine.specs.Meets.{IsIdle, IsUnmarked, TakesEntry}
 use Rattle.tp_engine.proofs.Worlds.Procs.{ran-stands, ran-world, noted-stands, noted-world, begun-stands, begun-world}
@@ -96,25 +96,25 @@ marked-first names p qs = sym (moved-zero (scheduler.first_marked (map (process_
 
 module _ (m : Machine) (h : IsIdle m) where
   abbrev rows : List world.Process
-  rows = map (process_of m.atoms (plain_of m.state)) m.state.procs.items
+  rows = map (process_of m.atoms (plain_of m.state)) m.state.procs
 
-  pub rows-are : (world_in m).processes ≡ map (process_of m.atoms (plain_of m.state)) m.state.procs.items
+  pub rows-are : (world_in m).processes ≡ map (process_of m.atoms (plain_of m.state)) m.state.procs
   rows-are = ap (λ o. with_running o (items_of m.atoms (plain_of m.state) m.state.items) rows) h.idle
 
-  chooses : step (base_in m) (world_in m) ≡ elim (position is_marked m.state.procs.items) as (λ _. Gives) [ None ↦ by_calendar (world_in m) (world_in m).calendar | Some p ↦ one (scheduler.with_running p (stamped (world_in m))) ]
+  chooses : step (base_in m) (world_in m) ≡ elim (position is_marked m.state.procs) as (λ _. Gives) [ None ↦ by_calendar (world_in m) (world_in m).calendar | Some p ↦ one (scheduler.with_running p (stamped (world_in m))) ]
   unfolding step
   chooses =
       ap (λ o. elim o as (λ _. Gives) [ None ↦ choose (world_in m) | Some p ↦ item_step (base_in m) (world_in m) p (world.items_at (world_in m).processes p) ]) h.idle
       ∙ ap (λ o. elim o as (λ _. Gives) [ None ↦ by_calendar (world_in m) (world_in m).calendar | Some p ↦ one (scheduler.with_running p (stamped (world_in m))) ])
-      (ap scheduler.first_marked rows-are ∙ marked-first m.atoms (plain_of m.state) m.state.procs.items)
+      (ap scheduler.first_marked rows-are ∙ marked-first m.atoms (plain_of m.state) m.state.procs)
 
-  pub marked_there : (p : ℕ) → position is_marked m.state.procs.items ≡ Some p → p < length m.state.procs.items
-  marked_there p e = (position-Some is_marked m.state.procs.items p (record { name = record { at = 0 }; end = Inf; started = true; status = Ended; items = None }) e).0
+  pub marked_there : (p : ℕ) → position is_marked m.state.procs ≡ Some p → p < length m.state.procs
+  marked_there p e = (position-Some is_marked m.state.procs p (record { name = record { at = 0 }; end = Inf; started = true; status = Ended; items = None }) e).0
 
   -- a marked process runs
-  pub runs_marked : (s : State) (p : ℕ) → position is_marked m.state.procs.items ≡ Some p → ((q : Proc) → slice_get m.state.procs.items p ≡ Some q → plain_of s ≡ ran p q (plain_of m.state)) → Steps m (record m { state = s; stamp = m.stamp + 1 }) answer.Went
+  pub runs_marked : (s : State) (p : ℕ) → position is_marked m.state.procs ≡ Some p → ((q : Proc) → slice_get m.state.procs p ≡ Some q → plain_of s ≡ ran p q (plain_of m.state)) → Steps m (record m { state = s; stamp = m.stamp + 1 }) answer.Went
   runs_marked s p e f =
-      let q = there p m.state.procs.items (marked_there p e) in
+      let q = there p m.state.procs (marked_there p e) in
       let here = f q.0 q.1 in
       let is = h.machine in
       to_one m (record m { state = s; stamp = m.stamp + 1 }) is
@@ -126,23 +126,23 @@ module _ (m : Machine) (h : IsUnmarked m) where
   by_entries : step (base_in m) (world_in m) ≡ by_calendar (world_in m) (world_in m).calendar
   by_entries = chooses m h.idle ∙ ap (λ o. elim o as (λ _. Gives) [ None ↦ by_calendar (world_in m) (world_in m).calendar | Some p ↦ one (scheduler.with_running p (stamped (world_in m))) ]) h.none
 
-  live-is : list_any scheduler.is_live (world_in m).processes ≡ list_any is_live m.state.procs.items
-  live-is = ap (list_any scheduler.is_live) (rows-are m h.idle) ∙ any-map (process_of m.atoms (plain_of m.state)) scheduler.is_live is_live (same-live m.atoms (plain_of m.state)) m.state.procs.items
+  live-is : list_any scheduler.is_live (world_in m).processes ≡ list_any is_live m.state.procs
+  live-is = ap (list_any scheduler.is_live) (rows-are m h.idle) ∙ any-map (process_of m.atoms (plain_of m.state)) scheduler.is_live is_live (same-live m.atoms (plain_of m.state)) m.state.procs
 
-  late-is : (t : ℤ) → list_any (scheduler.is_late t) (world_in m).processes ≡ list_any (is_late t) m.state.procs.items
-  late-is t = ap (list_any (scheduler.is_late t)) (rows-are m h.idle) ∙ any-map (process_of m.atoms (plain_of m.state)) (scheduler.is_late t) (is_late t) (same-late m.atoms (plain_of m.state) t) m.state.procs.items
+  late-is : (t : ℤ) → list_any (scheduler.is_late t) (world_in m).processes ≡ list_any (is_late t) m.state.procs
+  late-is t = ap (list_any (scheduler.is_late t)) (rows-are m h.idle) ∙ any-map (process_of m.atoms (plain_of m.state)) (scheduler.is_late t) (is_late t) (same-late m.atoms (plain_of m.state) t) m.state.procs
 
   -- nothing is left in the calendar
-  pub stops_dead : m.state.slots.items ≡ [] → list_any is_live m.state.procs.items ≡ true → Steps m m (answer.Dead Deadlock)
+  pub stops_dead : m.state.calendar.slots ≡ [] → list_any is_live m.state.procs ≡ true → Steps m m (answer.Dead Deadlock)
   stops_dead e live = to_none m (answer.Dead Deadlock) (machine.Dead Deadlock) (Dead Deadlock) h.idle.machine refl tt
       (by_entries ∙ ap (λ es. by_calendar (world_in m) (map slot_of es)) e ∙ ap (λ b. if b then Dead Deadlock else Success) (live-is ∙ live)) refl
 
-  pub stops_well : m.state.slots.items ≡ [] → list_any is_live m.state.procs.items ≡ false → Steps m m answer.Success
+  pub stops_well : m.state.calendar.slots ≡ [] → list_any is_live m.state.procs ≡ false → Steps m m answer.Success
   stops_well e live = to_none m answer.Success machine.Success Success h.idle.machine refl tt
       (by_entries ∙ ap (λ es. by_calendar (world_in m) (map slot_of es)) e ∙ ap (λ b. if b then Dead Deadlock else Success) (live-is ∙ live)) refl
 
   -- a process would live past its end time
-  pub is_too_late : (e : Slot) (es : List Slot) → m.state.slots.items ≡ e ∷ es → list_any (is_late e.time) m.state.procs.items ≡ true → Steps m m (answer.Dead Late)
+  pub is_too_late : (e : Slot) (es : List Slot) → m.state.calendar.slots ≡ e ∷ es → list_any (is_late e.time) m.state.procs ≡ true → Steps m m (answer.Dead Late)
   is_too_late e es k late = to_none m (answer.Dead Late) (machine.Dead Late) (Dead Late) h.idle.machine refl tt
       (by_entries ∙ ap (λ xs. by_calendar (world_in m) (map slot_of xs)) k
       ∙ ap (λ b. if b then Dead Late else one (scheduler.entered (world_in m) (slot_of e) (map slot_of es))) (late-is e.time ∙ late)) refl
@@ -172,52 +172,52 @@ some_entry (x ∷ xs) o time h e =
 
 -- the first entry is taken
 module _ (m : Machine) (h : TakesEntry m) where
-  pub entry_first : 0 < length m.state.slots.items
+  pub entry_first : 0 < length m.state.calendar.slots
   entry_first = omega (arith, ap length h.slots)
 
-  there_is : h.entry.pid < length m.state.procs.items
+  there_is : h.entry.pid < length m.state.procs
   there_is =
       let v = h.unmarked.idle.machine.worlds.world.valid in
       let fits = subst (λ es. AllByRecursion (SlotFits (length (world_in m).processes) m.state.clock m.state.insertion) (map slot_of es)) h.slots v.entries in
       let lt : h.entry.pid < length (world_in m).processes = fits.0.0 in
-      omega (arith, lt, ap length (rows-are m h.unmarked.idle), len-map (process_of m.atoms (plain_of m.state)) m.state.procs.items)
+      omega (arith, lt, ap length (rows-are m h.unmarked.idle), len-map (process_of m.atoms (plain_of m.state)) m.state.procs)
 
   abbrev taken : Plain
   taken = record (plain_of m.state) { clock = h.entry.time; slots = h.more }
 
   module _ (s1 : State) (pid : ℕ) (at : pid ≡ h.entry.pid) (e1 : plain_of s1 ≡ record (plain_of m.state) { clock = h.entry.time; slots = h.more }) where
-    pub entry_there : pid < length s1.procs.items
+    pub entry_there : pid < length s1.procs
     entry_there = omega (arith, there_is, at, ap (λ (x : Plain). length x.procs) e1)
 
-    pub entry_kept : (s2 : State) → ((q : Proc) → slice_get s1.procs.items pid ≡ Some q → plain_of s2 ≡ ran pid q (plain_of s1)) → pid < length s2.procs.items
+    pub entry_kept : (s2 : State) → ((q : Proc) → slice_get s1.procs pid ≡ Some q → plain_of s2 ≡ ran pid q (plain_of s1)) → pid < length s2.procs
     entry_kept s2 f2 =
-        let q = there pid s1.procs.items (entry_there) in
-        omega (arith, entry_there, ap (λ (x : Plain). length x.procs) (f2 q.0 q.1), length-set s1.procs.items pid (record q.0 { status = Running }))
+        let q = there pid s1.procs (entry_there) in
+        omega (arith, entry_there, ap (λ (x : Plain). length x.procs) (f2 q.0 q.1), length-set s1.procs pid (record q.0 { status = Running }))
 
   takes_at : (s1 s2 s3 : State) → plain_of s1 ≡ record (plain_of m.state) { clock = h.entry.time; slots = h.more }
-      → ((q : Proc) → slice_get s1.procs.items h.entry.pid ≡ Some q → plain_of s2 ≡ ran h.entry.pid q (plain_of s1))
-      → ((q : Proc) → slice_get s2.procs.items h.entry.pid ≡ Some q → plain_of s3 ≡ opened h.entry.pid q (plain_of s2))
+      → ((q : Proc) → slice_get s1.procs h.entry.pid ≡ Some q → plain_of s2 ≡ ran h.entry.pid q (plain_of s1))
+      → ((q : Proc) → slice_get s2.procs h.entry.pid ≡ Some q → plain_of s3 ≡ opened h.entry.pid q (plain_of s2))
       → Steps m (record m { state = s3; stamp = m.stamp + 1 }) answer.Went
   takes_at s1 s2 s3 e1 f2 f3 =
       let pid = h.entry.pid in
       let is = h.unmarked.idle.machine in
       let names = m.atoms in
-      let found = there pid m.state.procs.items (there_is) in
+      let found = there pid m.state.procs (there_is) in
       let q = found.0 in
       let y : Proc = record q { status = Running } in
       let e2 : plain_of s2 ≡ ran pid q taken = f2 q (ap (λ (x : Plain). slice_get x.procs pid) e1 ∙ found.1) ∙ ap (ran pid q) e1 in
-      let there2 : slice_get s2.procs.items pid ≡ Some y = ap (λ (x : Plain). slice_get x.procs pid) e2 ∙ set-there m.state.procs.items pid y (there_is) in
+      let there2 : slice_get s2.procs pid ≡ Some y = ap (λ (x : Plain). slice_get x.procs pid) e2 ∙ set-there m.state.procs pid y (there_is) in
       let e3 : plain_of s3 ≡ opened pid y (ran pid q taken) = f3 y there2 ∙ ap (opened pid y) e2 in
       let st1 : PlainStands names taken = record { store = is.stands.store; atoms = is.stands.atoms; lists = is.stands.lists; items = is.stands.items; procs = is.stands.procs; boxes = is.stands.boxes; events = is.stands.events } in
       let st2 = ran-stands names taken pid q st1 found.1 in
-      let opens = opens_to names (ran pid q taken) pid (m.stamp + 1) y st2 refl (set-there m.state.procs.items pid y (there_is)) (omega (arith, there_is, length-set m.state.procs.items pid y)) in
+      let opens = opens_to names (ran pid q taken) pid (m.stamp + 1) y st2 refl (set-there m.state.procs pid y (there_is)) (omega (arith, there_is, length-set m.state.procs pid y)) in
       let ran_is : world_of names (ran pid q taken) (m.stamp + 1) ≡ scheduler.with_running pid (record (stamped (world_in m)) { clock = h.entry.time; calendar = map slot_of h.more }) = ran-world names taken pid (m.stamp + 1) q h.unmarked.idle.idle found.1 in
       to_one m (record m { state = s3; stamp = m.stamp + 1 }) is
       (record { same = refl; names = Grows-same names; table = is.program.table; stands = subst (PlainStands names) (sym e3) opens.0; stamp = refl })
       (by_entries m h.unmarked ∙ ap (λ xs. by_calendar (world_in m) (map slot_of xs)) h.slots
       ∙ ap (λ b. if b then Dead Late else one (scheduler.entered (world_in m) (slot_of h.entry) (map slot_of h.more))) (late-is m h.unmarked h.entry.time ∙ h.timely)
       ∙ ap (λ o. one (with_start pid o (scheduler.with_running pid (record (stamped (world_in m)) { clock = h.entry.time; calendar = map slot_of h.more }))))
-      (ap (λ xs. slice_get xs pid) (rows-are m h.unmarked.idle) ∙ slice_get-map (process_of names (plain_of m.state)) m.state.procs.items pid ∙ ap (option_map (process_of names (plain_of m.state))) found.1)
+      (ap (λ xs. slice_get xs pid) (rows-are m h.unmarked.idle) ∙ slice_get-map (process_of names (plain_of m.state)) m.state.procs pid ∙ ap (option_map (process_of names (plain_of m.state))) found.1)
       ∙ ap (λ v. one (if q.started then v else world.with_event pid world.Start (world.with_process pid (λ (x : world.Process). record x { started = true }) v))) (sym ran_is)
       ∙ ap one (sym (ap (λ (x : Plain). world_of names x (m.stamp + 1)) e3 ∙ opens.1)))
     where
@@ -234,10 +234,10 @@ module _ (m : Machine) (h : TakesEntry m) where
               )
 
   pub takes : (s1 s2 s3 : State) (pid' : ℕ) → pid' ≡ h.entry.pid → plain_of s1 ≡ record (plain_of m.state) { clock = h.entry.time; slots = h.more }
-      → ((q : Proc) → slice_get s1.procs.items pid' ≡ Some q → plain_of s2 ≡ ran pid' q (plain_of s1))
-      → ((q : Proc) → slice_get s2.procs.items pid' ≡ Some q → plain_of s3 ≡ opened pid' q (plain_of s2))
+      → ((q : Proc) → slice_get s1.procs pid' ≡ Some q → plain_of s2 ≡ ran pid' q (plain_of s1))
+      → ((q : Proc) → slice_get s2.procs pid' ≡ Some q → plain_of s3 ≡ opened pid' q (plain_of s2))
       → Steps m (record m { state = s3; stamp = m.stamp + 1 }) answer.Went
   takes s1 s2 s3 pid' at e1 g2 g3 =
       takes_at s1 s2 s3 e1
-      (subst (λ n. (q : Proc) → slice_get s1.procs.items n ≡ Some q → plain_of s2 ≡ ran n q (plain_of s1)) at g2)
-      (subst (λ n. (q : Proc) → slice_get s2.procs.items n ≡ Some q → plain_of s3 ≡ opened n q (plain_of s2)) at g3)
+      (subst (λ n. (q : Proc) → slice_get s1.procs n ≡ Some q → plain_of s2 ≡ ran n q (plain_of s1)) at g2)
+      (subst (λ n. (q : Proc) → slice_get s2.procs n ≡ Some q → plain_of s3 ≡ opened n q (plain_of s2)) at g3)

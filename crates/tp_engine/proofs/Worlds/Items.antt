@@ -9,11 +9,11 @@ use Rattle.tp_meaning.specs.World as world
 use Rattle.tp_meaning.specs.World.{World, at_place, with_items, stamped}
 use Rattle.tp_meaning.proofs.Places.{all-append, all-weaker, map-same, at_place-over}
 use Rattle.tp_store.specs.Contents.{Contents}
-use Rattle.tp_engine.specs.declared.frames.Item.{Item}
-use Rattle.tp_engine.specs.Lists.{items_at}
-use Rattle.tp_engine.specs.Plain.{Plain, item_of, items_of, process_of, with_running, processes_of, world_of}
-use Rattle.tp_engine.specs.Stands.{ItemStands, ItemsStand, ListsStand, ProcStands, PlainStands}
-use Rattle.tp_engine.specs.Acts.{pushed, resting}
+use Rattle.tp_control.specs.declared.frames.Item.{Item}
+use Rattle.tp_control.specs.Lists.{items_at}
+use Rattle.tp_state.specs.Plain.{Plain, item_of, items_of, process_of, with_running, processes_of, world_of}
+use Rattle.tp_state.specs.Stands.{ItemStands, ItemsStand, ListsStand, ProcStands, PlainStands}
+use Rattle.tp_state.specs.Acts.{pushed, resting}
 
 -- the list of a place stands
 pub list_stands : (n : ℕ) (ls : List (List Item)) (f : Option ItemId) → ListsStand n ls → IfSome f (λ i. i.at < length ls) → ItemsStand n (items_at ls f)

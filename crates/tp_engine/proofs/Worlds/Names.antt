@@ -22,17 +22,17 @@ use Rattle.tp_store.proofs.StoreLemmas.{subst_of-names}
 use Rattle.tp_clauses.specs.declared.base.ClauseView.{ClauseView}
 use Rattle.tp_clauses.specs.Contents as kept
 use Rattle.tp_clauses.specs.Contents.{base_of, clause_of, clause_by}
-use Rattle.tp_engine.specs.declared.frames.Item.{Item}
-use Rattle.tp_engine.specs.declared.frames.Item.TheVariants.{Goal, Commit, Retry}
-use Rattle.tp_engine.specs.declared.machine.Alt.{Alt}
-use Rattle.tp_engine.specs.declared.machine.Alt.TheVariants as alt
-use Rattle.tp_engine.specs.declared.machine.Choice.{Choice}
+use Rattle.tp_control.specs.declared.frames.Item.{Item}
+use Rattle.tp_control.specs.declared.frames.Item.TheVariants.{Goal, Commit, Retry}
+use Rattle.tp_control.specs.declared.choices.Alt.{Alt}
+use Rattle.tp_control.specs.declared.choices.Alt.TheVariants as alt
+use Rattle.tp_control.specs.declared.choices.Choice.{Choice}
 use Rattle.tp_engine.specs.Heads.{unifier}
-use Rattle.tp_engine.specs.Lists.{items_at}
-use Rattle.tp_engine.specs.Plain.{Plain, item_of, items_of, process_of, with_running, processes_of, box_of, kind_of, event_of, world_of}
+use Rattle.tp_control.specs.Lists.{items_at}
+use Rattle.tp_state.specs.Plain.{Plain, item_of, items_of, process_of, with_running, processes_of, box_of, kind_of, event_of, world_of}
 use Rattle.tp_terms.specs.Events.{KindStands, EventStands}
-use Rattle.tp_engine.specs.Stands.{ProcStands, PlainStands}
-use Rattle.tp_engine.specs.State.{plain_of}
+use Rattle.tp_state.specs.Stands.{ProcStands, PlainStands}
+use Rattle.tp_state.specs.State.{plain_of}
 use Rattle.tp_engine.specs.Machine.{GoesOn, ChoiceFits, open_at, choice_of, choices_of}
 
 -- a map by two functions that agree on each element

@@ -14,10 +14,10 @@ use Rattle.tp_meaning.specs.World as world
 use Rattle.tp_meaning.specs.World.{World, at_place, with_status, with_process, stamped}
 use Rattle.tp_meaning.specs.Scheduler as scheduler
 use Rattle.tp_meaning.proofs.Places.{all-append, map-set, at_place-same, at_place-both, get-at_place}
-use Rattle.tp_engine.specs.Plain.{Plain, items_of, process_of, processes_of, event_of, kind_of, world_of}
+use Rattle.tp_state.specs.Plain.{Plain, items_of, process_of, processes_of, event_of, kind_of, world_of}
 use Rattle.tp_terms.specs.Events.{KindStands, EventStands}
-use Rattle.tp_engine.specs.Stands.{ProcStands, PlainStands}
-use Rattle.tp_engine.specs.Acts.{noted, ran, left, begun, mark, mark_others}
+use Rattle.tp_state.specs.Stands.{ProcStands, PlainStands}
+use Rattle.tp_state.specs.Acts.{noted, ran, left, begun, mark, mark_others}
 
 -- ---- lists with one element replaced
 
@@ -63,7 +63,7 @@ ran-world names p pid n q idle e =
     ap (λ ps. record (world_of names p n) { running = Some pid; processes = ps }) (
     ap (at_place pid (λ (x : world.Process). record x { items = items_of names p q.items })) set
     ∙ at_place-same (λ (x : world.Process). record x { items = items_of names p q.items }) pid (at_place pid runs rows) (runs (process_of names p q)) here refl
-    ∙ ap (λ o. at_place pid (λ (x : world.Process). record x { status = Running }) (Rattle.tp_engine.specs.Plain.with_running o (items_of names p p.items) rows)) (sym idle)
+    ∙ ap (λ o. at_place pid (λ (x : world.Process). record x { status = Running }) (Rattle.tp_state.specs.Plain.with_running o (items_of names p p.items) rows)) (sym idle)
     )
   where
     rows : List world.Process
@@ -94,7 +94,7 @@ left-world names p pid n q t runs e =
     ap (λ ps. record (world_of names p n) { running = None; processes = ps }) (
     map-set (process_of names p) (λ (x : world.Process). record x { status = t; items = is }) pid p.procs q (record q { status = t; items = p.items }) e refl
     ∙ sym (at_place-both (λ (x : world.Process). record x { status = t }) (λ (x : world.Process). record x { items = is }) (λ (x : world.Process). record x { status = t; items = is }) (λ x. refl) pid rows)
-    ∙ ap (λ o. at_place pid (λ (x : world.Process). record x { status = t }) (Rattle.tp_engine.specs.Plain.with_running o is rows)) (sym runs)
+    ∙ ap (λ o. at_place pid (λ (x : world.Process). record x { status = t }) (Rattle.tp_state.specs.Plain.with_running o is rows)) (sym runs)
     )
 
 -- ---- events
@@ -129,11 +129,11 @@ begun-world names p pid n q runs e =
     let has : world.Process → world.Process = λ x. record x { items = is } in
     let both : world.Process → world.Process = λ x. record x { started = true; items = is } in
     ap (λ ps. record (world_of names p n) { processes = ps }) (
-    ap (Rattle.tp_engine.specs.Plain.with_running p.running is) (map-set (process_of names p) starts pid p.procs q (record q { started = true }) e refl)
-    ∙ ap (λ o. Rattle.tp_engine.specs.Plain.with_running o is (at_place pid starts rows)) runs
+    ap (Rattle.tp_state.specs.Plain.with_running p.running is) (map-set (process_of names p) starts pid p.procs q (record q { started = true }) e refl)
+    ∙ ap (λ o. Rattle.tp_state.specs.Plain.with_running o is (at_place pid starts rows)) runs
     ∙ at_place-both has starts both (λ x. refl) pid rows
     ∙ sym (at_place-both starts has both (λ x. refl) pid rows)
-    ∙ ap (λ o. at_place pid starts (Rattle.tp_engine.specs.Plain.with_running o is rows)) (sym runs)
+    ∙ ap (λ o. at_place pid starts (Rattle.tp_state.specs.Plain.with_running o is rows)) (sym runs)
     )
 
 -- ---- processes are marked
@@ -141,7 +141,7 @@ begun-world names p pid n q runs e =
 mark-row : (names : List Name) (p : Plain) (q : Proc) → process_of names p (mark q) ≡ world.mark (process_of names p q)
 mark-row names p q = go q.status
   where
-    go : (t : ProcStatus) → process_of names p (record q { status = Rattle.tp_engine.specs.Acts.marked_status t }) ≡ world.mark (process_of names p (record q { status = t }))
+    go : (t : ProcStatus) → process_of names p (record q { status = Rattle.tp_state.specs.Acts.marked_status t }) ≡ world.mark (process_of names p (record q { status = t }))
     go Scheduled = refl
     go Running = refl
     go AwaitsMail = refl
@@ -161,9 +161,9 @@ pub marked-world : (names : List Name) (p : Plain) (pid n : ℕ) → p.running �
 marked-world names p pid n idle =
     let is = items_of names p p.items in
     ap (λ ps. record (world_of names p n) { processes = ps }) (
-    ap (Rattle.tp_engine.specs.Plain.with_running p.running is) (others-rows names p pid p.procs)
-    ∙ ap (λ o. Rattle.tp_engine.specs.Plain.with_running o is (world.mark_others pid (map (process_of names p) p.procs))) idle
-    ∙ ap (λ o. world.mark_others pid (Rattle.tp_engine.specs.Plain.with_running o is (map (process_of names p) p.procs))) (sym idle)
+    ap (Rattle.tp_state.specs.Plain.with_running p.running is) (others-rows names p pid p.procs)
+    ∙ ap (λ o. Rattle.tp_state.specs.Plain.with_running o is (world.mark_others pid (map (process_of names p) p.procs))) idle
+    ∙ ap (λ o. world.mark_others pid (Rattle.tp_state.specs.Plain.with_running o is (map (process_of names p) p.procs))) (sym idle)
     )
 
 length-others : (n : ℕ) (qs : List Proc) → length (mark_others n qs) ≡ length qs

@@ -12,12 +12,12 @@ use Rattle.tp_meaning.specs.World as world
 use Rattle.tp_meaning.specs.World.{World, at_place, world_under, item_by, kind_by, event_by, process_by}
 use Rattle.tp_meaning.proofs.Places.{all-weaker, map-same, map-map, map-itself, at_place-map}
 use Rattle.tp_store.specs.Contents.{Contents, IsStore, subst_of, seen}
-use Rattle.tp_engine.specs.declared.frames.Item.{Item}
-use Rattle.tp_engine.specs.declared.frames.Item.TheVariants.{Goal, Commit, Retry}
-use Rattle.tp_engine.specs.Lists.{items_at}
-use Rattle.tp_engine.specs.Plain.{Plain, item_of, items_of, process_of, with_running, processes_of, box_of, kind_of, event_of, world_of}
+use Rattle.tp_control.specs.declared.frames.Item.{Item}
+use Rattle.tp_control.specs.declared.frames.Item.TheVariants.{Goal, Commit, Retry}
+use Rattle.tp_control.specs.Lists.{items_at}
+use Rattle.tp_state.specs.Plain.{Plain, item_of, items_of, process_of, with_running, processes_of, box_of, kind_of, event_of, world_of}
 use Rattle.tp_terms.specs.Events.{KindStands, EventStands}
-use Rattle.tp_engine.specs.Stands.{ItemStands, ItemsStand, ProcStands, BoxStands, PlainStands}
+use Rattle.tp_state.specs.Stands.{ItemStands, ItemsStand, ProcStands, BoxStands, PlainStands}
 use Rattle.tp_engine.proofs.Worlds.Items.{list_stands}
 
 -- a store with further cells, whose old places are seen as before but for a change

@@ -13,7 +13,7 @@ pub undone-append : (xs ys : List Entry) (p : Parts) → undone (xs ++ ys) p ≡
 undone-append [] ys p = refl
 undone-append (e ∷ xs) ys p = ap (undo e) (undone-append xs ys p)
 
-rooms-append : (xs ys : List Entry) (r : Rooms) → rooms_undone (xs ++ ys) r ≡ rooms_undone xs (rooms_undone ys r)
+pub rooms-append : (xs ys : List Entry) (r : Rooms) → rooms_undone (xs ++ ys) r ≡ rooms_undone xs (rooms_undone ys r)
 rooms-append [] ys r = refl
 rooms-append (e ∷ xs) ys r = ap (undo_rooms e) (rooms-append xs ys r)
 

@@ -9,11 +9,11 @@ cut-preserved-in-cut c =
     let all = c.args.choices.now.items in
     let is_from = sym (c.newest_is_from.ensures ∙ ap (newest_from stamp) c.as_slice.ensures.value) ∙ c.cut-test.true in
     record {
-      cut = λ names base. cut_newest names base stamp c.cut.choices.items c.pop.new.self.items c.pop.result c.pop.ensures.items is_from ∙ c.cut.invariant.cut names base;
-      first = cut_first all c.cut.choices.items c.pop.new.self.items c.pop.result c.cut.invariant.first.0 c.cut.invariant.first.1 c.pop.ensures.items;
+      cut = λ names base. cut_newest names base stamp c.cut.choices c.pop.new.self.items c.pop.result c.pop.ensures.items is_from ∙ c.cut.invariant.cut names base;
+      first = cut_first all c.cut.choices c.pop.new.self.items c.pop.result c.cut.invariant.first.0 c.cut.invariant.first.1 c.pop.ensures.items;
     }
 
 pub returns-clause-cut : goal.returns-clause-cut
 returns-clause-cut c names base =
-    sym (cut_done names base c.args.stamp c.cut.choices.items (sym (c.newest_is_from.ensures ∙ ap (newest_from c.args.stamp) c.as_slice.ensures.value) ∙ c.cut-test.false))
+    sym (cut_done names base c.args.stamp c.cut.choices (sym (c.newest_is_from.ensures ∙ ap (newest_from c.args.stamp) c.as_slice.ensures.value) ∙ c.cut-test.false))
     ∙ c.cut.invariant.cut names base

@@ -8,9 +8,9 @@ use Rattle.tp_engine.proofs.items.cut_choices.Given as goal
 -- what is to be left is left by the choices so far, which are the first of all
 abbrev pub invariant-cut : goal.invariant-cut
 invariant-cut l = record {
-  cut : (names : List Name) (base : Base) → cut_from l.stamp (choices_of names base l.choices.items) ≡ cut_from l.stamp (choices_of names base l.fn.choices.items);
-  first : (n : ℕ) × (l.choices.items ≡ take n l.fn.choices.items);
+  cut : (names : List Name) (base : Base) → cut_from l.stamp (choices_of names base l.choices) ≡ cut_from l.stamp (choices_of names base l.fn.choices);
+  first : (n : ℕ) × (l.choices ≡ take n l.fn.choices);
 }
 
 abbrev pub decreases-cut : goal.decreases-cut
-decreases-cut l = length l.choices.items
+decreases-cut l = length l.choices

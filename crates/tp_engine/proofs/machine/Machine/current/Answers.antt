@@ -1,5 +1,5 @@
 use Rattle.std.proofs.Common.{ap, sym, ◌∙◌, ◌∷◌}
-use Rattle.tp_engine.specs.Lists.{items_at}
+use Rattle.tp_control.specs.Lists.{items_at}
 use Rattle.tp_engine.proofs.GoalsMet.{not_named}
 use Rattle.tp_engine.proofs.machine.Machine.current.Goals as goal
 

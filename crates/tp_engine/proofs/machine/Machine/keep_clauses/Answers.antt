@@ -1,6 +1,6 @@
 use Rattle.std.proofs.Common.{◌<◌, ◌^◌, ◌∙◌, IfSome, sym, subst}
 use Rattle.tp_engine.specs.declared.machine.Machine.{Machine}
-use Rattle.tp_engine.specs.declared.machine.Alt.TheVariants.{Clause}
+use Rattle.tp_control.specs.declared.choices.Alt.TheVariants.{Clause}
 use Rattle.tp_engine.specs.Goes.{KeepsWorlds, IsKept, MayKeep, untried_in}
 use Rattle.tp_engine.proofs.Step.Clauses.{next_untried, may_clause, kept_from, kept_none}
 use Rattle.tp_engine.proofs.machine.Machine.keep_clauses.Goals as goal

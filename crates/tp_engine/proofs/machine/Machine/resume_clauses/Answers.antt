@@ -1,5 +1,5 @@
 use Rattle.std.proofs.Common.{◌+◌}
-use Rattle.tp_engine.specs.declared.machine.Alt.TheVariants.{Clause}
+use Rattle.tp_control.specs.declared.choices.Alt.TheVariants.{Clause}
 use Rattle.tp_engine.proofs.Step.Back.{calls_back, hits_back, hits_kept, resumes_clause}
 use Rattle.tp_engine.proofs.machine.Machine.resume_clauses.Goals as goal
 

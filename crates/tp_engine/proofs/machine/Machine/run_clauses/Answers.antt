@@ -1,7 +1,7 @@
 use Rattle.std.proofs.Common.{◌+◌, ◌∷◌, length, sym, ap, subst, ◌∙◌}
 use Rattle.tp_meaning.specs.declared.DeadCause.TheVariants.{Failed}
 use Rattle.tp_engine.specs.declared.phase.Stepped.TheVariants.{Dead}
-use Rattle.tp_engine.specs.declared.machine.Alt.TheVariants.{Clause}
+use Rattle.tp_control.specs.declared.choices.Alt.TheVariants.{Clause}
 use Rattle.tp_engine.specs.declared.machine.Machine.{Machine}
 use Rattle.tp_engine.specs.Machine.{Steps, world_in}
 use Rattle.tp_engine.specs.Meets.{clauses_of}

@@ -2,7 +2,7 @@ use Rattle.std.proofs.Common.{length, arith}
 use Rattle.tp_terms.specs.declared.symbols.TheConstants.{CALL}
 use Rattle.tp_terms.proofs.StartLemmas.{start-within}
 use Rattle.tp_engine.proofs.Begun.{placed, empty_named}
-use Rattle.tp_engine.proofs.state.place_goal.Goals as goal
+use Rattle.tp_engine.proofs.begin.place_goal.Goals as goal
 
 pub returns : goal.returns
 returns c names table named =

@@ -1,6 +1,6 @@
-use Rattle.tp_engine.specs.State.{plain_of}
+use Rattle.tp_state.specs.State.{plain_of}
 use Rattle.tp_engine.proofs.Begun.{starts, placed_at, placed_none}
-use Rattle.tp_engine.proofs.state.State.start.Goals as goal
+use Rattle.tp_engine.proofs.begin.first_state.Goals as goal
 
 pub returns-in_default : goal.returns-in_default
 returns-in_default c names table named = placed_none names c.args.goal.now c.place_goal.new.store _ c.in_default.is (c.in_ok-place.ensures names table named)

@@ -1,7 +1,0 @@
-use Rattle.std.proofs.Common.{take, ap, ◌∙◌}
-use Rattle.tp_engine.specs.Lists.{lists}
-use Rattle.tp_engine.proofs.ListsLinked.{lists-take}
-use Rattle.tp_engine.proofs.frames.Frames.cut_to.Goals as goal
-
-pub returns : goal.returns
-returns c = ap lists c.truncate.ensures.items ∙ lists-take c.args.len c.self.inside.frames.items ∙ ap (take c.args.len) c.self.view_is

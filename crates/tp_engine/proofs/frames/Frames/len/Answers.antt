@@ -1,8 +1,0 @@
-use Rattle.std.proofs.Common.{◌≡◌, length, ap, sym, ◌∙◌, rules}
-use Rattle.tp_engine.proofs.ListsLinked.{length-lists}
-use Rattle.tp_engine.proofs.frames.Frames.len.Goals as goal
-
-pub returns : goal.returns
-returns c =
-    let e : c.len.result ≡ length c.self.inside.frames.items = search rules in
-    e ∙ sym (length-lists c.self.inside.frames.items) ∙ ap length c.self.view_is
