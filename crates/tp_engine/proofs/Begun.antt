@@ -36,9 +36,12 @@ use Rattle.tp_engine.specs.declared.machine.Machine.{Machine}
 use Rattle.tp_engine.specs.Program.{goal_term}
 use Rattle.tp_state.specs.Plain.{Plain, world_of}
 use Rattle.tp_state.specs.Stands.{PlainStands}
-use Rattle.tp_engine.specs.Start.{waiting_at, IsPlaced, IsStart}
-use Rattle.tp_state.specs.State.{plain_of}
-use Rattle.tp_engine.specs.Machine.{IsProgram, ChoiceFits, IsBegun, base_in, choices_of, waiting_of, world_in, open_in}
+use Rattle.tp_state.specs.Start.{waiting_at}
+use Rattle.tp_engine.specs.Start.{IsPlaced, IsStart}
+use Rattle.tp_state.specs.Undo.{CanUndo}
+use Rattle.tp_state.specs.Going.{parts_of}
+use Rattle.tp_state.specs.State.{plain_of, held_of}
+use Rattle.tp_engine.specs.Machine.{IsProgram, ChoicesFit, IsBegun, base_in, choices_in, choices_of, waiting_of, world_in, open_in}
 use Rattle.tp_engine.proofs.Program.{goal_below}
 
 renamed-zero : (n : ℕ) (t : Term) → n ≡ 0 → renamed n t ≡ t
@@ -99,27 +102,6 @@ start_at names goal found s e h = subst (λ o. MatchOption o (body (goal_term na
 
 -- ---- the contents
 
--- `main` with its first item
-abbrev pub waiting_main : ItemId → Proc
-waiting_main first = record { name = MAIN; end = limit.Inf; started = false; status = status.Scheduled; items = Some first }
-
-abbrev pub first_entry : Slot
-first_entry = record { time = pos 0; number = 0; pid = 0 }
-
--- contents made of these parts
-abbrev pub parts : Contents → List (List Item) → List Proc → List Slot → List (List Ref) → List Event → Plain
-parts c ls ps ss bs es = record { store = c; frames = ls; procs = ps; slots = ss; boxes = bs; events = es; clock = pos 0; insertion = 1; running = None; items = None }
-
--- contents that were made part by part
-pub waits : (c : Contents) (goal : Ref) (before ls : List (List Item)) (first : ItemId) (ps : List Proc) (ss : List Slot) (bs : List (List Ref)) (es : List Event) → before ≡ [] → ls ≡ before ++ (Goal goal 0 ∷ []) ∷ [] → first.at ≡ length before
-    → ps ≡ waiting_main first ∷ [] → ss ≡ first_entry ∷ [] → bs ≡ [] ∷ [] → es ≡ [] → parts c ls ps ss bs es ≡ waiting_at c goal
-waits c goal before ls first ps ss bs es none pushed at ep eslots eb ee =
-    ap (λ l. parts c l ps ss bs es) (pushed ∙ ap (λ b. b ++ (Goal goal 0 ∷ []) ∷ []) none)
-    ∙ ap (λ x. parts c ((Goal goal 0 ∷ []) ∷ []) x ss bs es) (ep ∙ ap (λ n. waiting_main (record { at = n }) ∷ []) (at ∙ ap length none))
-    ∙ ap (λ x. parts c ((Goal goal 0 ∷ []) ∷ []) (waiting_main (record { at = 0 }) ∷ []) x bs es) eslots
-    ∙ ap (λ x. parts c ((Goal goal 0 ∷ []) ∷ []) (waiting_main (record { at = 0 }) ∷ []) (first_entry ∷ []) x es) eb
-    ∙ ap (λ x. parts c ((Goal goal 0 ∷ []) ∷ []) (waiting_main (record { at = 0 }) ∷ []) (first_entry ∷ []) ([] ∷ []) x) ee
-
 pub starts : (names : List Name) (goal : ReadTerm) (place : Ref) (c : Contents) (p : Plain) → IsPlaced names goal place c → p ≡ waiting_at c place → IsStart names goal p
 starts names goal place c p h e = record { store = c; place = place; is = e; placed = h }
 
@@ -177,19 +159,20 @@ module _ (names : List Name) (table : IsTable names) (goal : ReadTerm) where
 -- ---- the machine
 
 -- a machine at its start
-pub begun : (m : Machine) → m.waiting ≡ None → m.choices ≡ [] → m.stamp ≡ 0 → IsProgram m → IsStart m.atoms m.goal.now (plain_of m.state) → IsBegun m
-begun m going none first program s =
+pub begun : (m : Machine) → m.waiting ≡ None → m.choices ≡ [] → m.state.log ≡ [] → m.stamp ≡ 0 → IsProgram m → IsStart m.atoms m.goal.now (plain_of m.state) → IsBegun m
+begun m going none empty first program s =
     let x = searched (base_in m) in
     let n = m.goal.now.vars in
     let open_ : open_in m ≡ [] =
-    ap (λ o. waiting_of (base_in m) (world_in m) m.stamp o ++ choices_of m.atoms (base_in m) m.choices) going ∙ ap (choices_of m.atoms (base_in m)) none in
+    ap (λ o. waiting_of (base_in m) (world_in m) m.stamp o ++ choices_in m) going ∙ ap (choices_of m.atoms (base_in m) (held_of m.state)) none in
     let is : world_in m ≡ start (goal_term m.atoms m.goal.now) n = ap (world_of m.atoms (plain_of m.state)) first ∙ start_world m.atoms program.table m.goal.now (plain_of m.state) s in
     record {
       machine = record {
         going = going;
         program = program;
         stands = start_stands m.atoms program.table m.goal.now (plain_of m.state) s;
-        choices = subst (All (ChoiceFits m.atoms (base_in m))) (sym none) (λ k d lt. absurd (omega arith));
+        safe = subst (λ es. CanUndo es (parts_of (plain_of m.state)) (held_of m.state).rooms) (sym empty) tt;
+        choices = subst (ChoicesFit m.atoms (base_in m) (held_of m.state)) (sym none) (record { fits = tt; rise = tt });
         worlds = record {
           world = subst (Stands n) (sym is) (record { valid = start-valid (goal_term m.atoms m.goal.now) n (goal_below m.atoms m.goal.now program.goal); vars = omega arith });
           choices = subst (AllByRecursion (ChoiceHolds (Stands n))) (sym open_) tt;

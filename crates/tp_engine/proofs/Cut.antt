@@ -1,77 +1,73 @@
 -- Choices that a commit removes.
-use Rattle.std.proofs.Common.{◌≡◌, ℕ, zero, suc, ◌+◌, ◌-◌, ◌<◌, ◌≤◌, Bool, true, false, cond, nat_lt, nat_le, List, [], ◌∷◌, ◌++◌, map, length, reverse, take, Option, Some, None, slice_get, refl, ap, sym, subst, ◌∙◌, arith, length-append}
-use Rattle.std.proofs.lemmas.List.{reverse-append, append-nil, take_all, take-append-le}
+use Rattle.std.proofs.Common.{◌≡◌, ℕ, ◌<◌, Bool, true, false, cond, nat_lt, List, [], ◌∷◌, ◌++◌, map, reverse, filter, refl, ap, sym, subst, ◌∙◌, arith}
+use Rattle.std.specs.List.{AllByRecursion}
+use Rattle.std.proofs.lemmas.List.{reverse-append}
 use Rattle.std.proofs.lemmas.Bool.Decides.{nat_tests}
-use Rattle.std.specs.Option.{option_to_list}
 use Rattle.tp_terms.specs.Term.{Name}
 use Rattle.tp_meaning.specs.Clauses.{Base}
+use Rattle.tp_meaning.specs.World.{World}
+use Rattle.tp_meaning.specs.Machine as machine
 use Rattle.tp_meaning.specs.Machine.{cut_from}
+use Rattle.tp_meaning.proofs.Places.{all-append}
 use Rattle.tp_control.specs.declared.choices.Choice.{Choice}
-use Rattle.tp_engine.specs.Machine.{choice_of, choices_of, newest_from}
+use Rattle.tp_control.specs.Stamps.{is_before, StampsRise}
+use Rattle.tp_state.specs.Going.{Held}
+use Rattle.tp_engine.specs.Machine.{choice_of, choices_of}
 
-seam : {A : Type 0} (xs : List A) (x : A) → slice_get (xs ++ x ∷ []) (length xs) ≡ Some x
-seam [] x = refl
-seam (y ∷ ys) x = seam ys x
+-- Where stamps rise, a commit removes from the newest choice on exactly those that aren't before its stamp.
+module _ (names : List Name) (base : Base) (h : Held) (stamp : ℕ) where
+  abbrev open_ : List Choice → List (machine.Choice World)
+  open_ cs = choices_of names base h cs
 
-last-is : {A : Type 0} (xs : List A) (x : A) → slice_get (xs ++ x ∷ []) (length (xs ++ x ∷ []) - 1) ≡ Some x
-last-is xs x = ap (slice_get (xs ++ x ∷ [])) (let e = length-append xs (x ∷ []) in let z : length (xs ++ x ∷ []) - 1 ≡ length xs = omega arith in z) ∙ seam xs x
-
--- a list has no element, or a last one
-data Ends {A : Type 0} (xs : List A) : Type 0 where
-  none : xs ≡ [] → Ends xs
-  some : (front : List A) (x : A) → xs ≡ front ++ x ∷ [] → Ends xs
-
-ends : {A : Type 0} (xs : List A) → Ends xs
-ends [] = none refl
-ends (x ∷ xs) = go (ends xs)
-  where
-    go : Ends xs → Ends (x ∷ xs)
-    go (none e) = some [] x (ap (λ ys. x ∷ ys) e)
-    go (some front y e) = some (x ∷ front) y (ap (λ ys. x ∷ ys) e)
-
-not-below : (stamp s : ℕ) → nat_le stamp s ≡ true → nat_lt s stamp ≡ false
-not-below stamp s e = grind (arith, nat_tests)
-
-is-below : (stamp s : ℕ) → nat_le stamp s ≡ false → nat_lt s stamp ≡ true
-is-below stamp s e = grind (arith, nat_tests)
-
-module _ (names : List Name) (base : Base) (stamp : ℕ) where
-  newest : (front : List Choice) (x : Choice) → choices_of names base (front ++ x ∷ []) ≡ choice_of names base x ∷ choices_of names base front
-  newest front x = ap (map (choice_of names base)) (reverse-append front (x ∷ []))
-
-  -- the newest choice, where it has the stamp or a higher one, is cut
-  pub cut_newest : (xs front : List Choice) (o : Option Choice) → xs ≡ front ++ option_to_list o → newest_from stamp xs ≡ true → cut_from stamp (choices_of names base front) ≡ cut_from stamp (choices_of names base xs)
-  cut_newest xs front None e h = ap (λ ys. cut_from stamp (choices_of names base ys)) (sym (append-nil front) ∙ sym e)
-  cut_newest xs front (Some x) e h =
-      let at : slice_get xs (length xs - 1) ≡ Some x = ap (λ ys. slice_get ys (length ys - 1)) e ∙ last-is front x in
-      let le : nat_le stamp x.stamp ≡ true = ap (λ o. elim o as (λ _. Bool) [ None ↦ false | Some c ↦ nat_le stamp c.stamp ]) (sym at) ∙ h in
-      sym (ap (λ ys. cut_from stamp (choices_of names base ys)) e ∙ ap (cut_from stamp) (newest front x)
-      ∙ ap (λ b. cond b (choice_of names base x ∷ choices_of names base front) (cut_from stamp (choices_of names base front))) (not-below stamp x.stamp le))
-
-  -- where it has a lower one, nothing is
-  pub cut_done : (xs : List Choice) → newest_from stamp xs ≡ false → cut_from stamp (choices_of names base xs) ≡ choices_of names base xs
-  cut_done xs h = go (ends xs)
+  -- the oldest choice comes last
+  oldest : (c : Choice) (cs : List Choice) → choices_of names base h (c ∷ cs) ≡ choices_of names base h cs ++ choice_of names base h c ∷ []
+  oldest c cs = ap (map (choice_of names base h)) (reverse-append (c ∷ []) cs) ∙ split (reverse cs)
     where
-      go : Ends xs → cut_from stamp (choices_of names base xs) ≡ choices_of names base xs
-      go (none e) = ap (λ ys. cut_from stamp (choices_of names base ys)) e ∙ sym (ap (choices_of names base) e)
-      go (some front x e) =
-          let at : slice_get xs (length xs - 1) ≡ Some x = ap (λ ys. slice_get ys (length ys - 1)) e ∙ last-is front x in
-          let le : nat_le stamp x.stamp ≡ false = ap (λ o. elim o as (λ _. Bool) [ None ↦ false | Some c ↦ nat_le stamp c.stamp ]) (sym at) ∙ h in
-          ap (λ ys. cut_from stamp (choices_of names base ys)) e ∙ ap (cut_from stamp) (newest front x)
-          ∙ ap (λ b. cond b (choice_of names base x ∷ choices_of names base front) (cut_from stamp (choices_of names base front))) (is-below stamp x.stamp le)
-          ∙ sym (newest front x) ∙ ap (choices_of names base) (sym e)
+      split : (xs : List Choice) → map (choice_of names base h) (xs ++ c ∷ []) ≡ map (choice_of names base h) xs ++ choice_of names base h c ∷ []
+      split [] = refl
+      split (x ∷ xs) = ap (λ l. choice_of names base h x ∷ l) (split xs)
 
--- what is left is the first of them
-pub cut_first : (all xs front : List Choice) (o : Option Choice) (n : ℕ) → xs ≡ take n all → xs ≡ front ++ option_to_list o → (k : ℕ) × (front ≡ take k all)
-cut_first all xs front o n e h = (length front, sym (ap (take (length front)) (sym whole) ∙ first))
-  where
-    whole : (front ++ option_to_list o) ++ Rattle.std.proofs.Common.drop n all ≡ all
-    whole = ap (λ ys. ys ++ Rattle.std.proofs.Common.drop n all) (sym h ∙ e) ∙ Rattle.std.proofs.lemmas.List.take-append-drop n all
+  -- a choice that is before the stamp stays below whatever is left above it
+  stays-below : (xs : List (machine.Choice World)) (y : machine.Choice World) → nat_lt y.stamp stamp ≡ true → cut_from stamp (xs ++ y ∷ []) ≡ cut_from stamp xs ++ y ∷ []
+  stays-below [] y e = ap (λ b. cond b (y ∷ []) []) e
+  stays-below (x ∷ xs) y e = by (nat_lt x.stamp stamp) (stays-below xs y e)
+    where
+      by : (b : Bool) → cut_from stamp (xs ++ y ∷ []) ≡ cut_from stamp xs ++ y ∷ [] → cond b (x ∷ xs ++ y ∷ []) (cut_from stamp (xs ++ y ∷ [])) ≡ cond b (x ∷ xs) (cut_from stamp xs) ++ y ∷ []
+      by true ih = refl
+      by false ih = ih
 
-    first : take (length front) ((front ++ option_to_list o) ++ Rattle.std.proofs.Common.drop n all) ≡ front
-    first = ap (take (length front)) (Rattle.std.proofs.Common.append_assoc front (option_to_list o) (Rattle.std.proofs.Common.drop n all)) ∙ Rattle.std.proofs.Math.Seq.take-append_seam front (option_to_list o ++ Rattle.std.proofs.Common.drop n all)
+  -- choices none of which is before the stamp go
+  all-go : (xs : List (machine.Choice World)) → AllByRecursion (λ (x : machine.Choice World). nat_lt x.stamp stamp ≡ false) xs → cut_from stamp xs ≡ []
+  all-go [] a = refl
+  all-go (x ∷ xs) a = ap (λ b. cond b (x ∷ xs) (cut_from stamp xs)) a.0 ∙ all-go xs a.1
 
--- fewer are left
-pub cut_less : (stamp : ℕ) (xs front : List Choice) (o : Option Choice) → xs ≡ front ++ option_to_list o → newest_from stamp xs ≡ true → (o ≡ None → xs ≡ []) → length front < length xs
-cut_less stamp xs front None e h z = absurd (let n : newest_from stamp xs ≡ false = ap (newest_from stamp) (z refl) in let q : true ≡ false = sym h ∙ n in cc)
-cut_less stamp xs front (Some x) e h z = omega (arith, ap length e, length-append front (x ∷ []))
+  -- above a choice that isn't before the stamp, none is
+  later : (c : Choice) (cs : List Choice) → nat_lt c.stamp stamp ≡ false → AllByRecursion (λ (d : Choice). c.stamp < d.stamp) cs → (filter (is_before stamp) cs ≡ []) × AllByRecursion (λ (x : machine.Choice World). nat_lt x.stamp stamp ≡ false) (choices_of names base h cs)
+  later c [] e a = (refl, tt)
+  later c (d ∷ ds) e a =
+      let lt : c.stamp < d.stamp = a.0 in
+      let no : nat_lt d.stamp stamp ≡ false = grind (arith, nat_tests, lt, e) in
+      let rest = later c ds e a.1 in (
+        ap (λ b. cond b (d ∷ filter (is_before stamp) ds) (filter (is_before stamp) ds)) no ∙ rest.0,
+        subst (AllByRecursion (λ (x : machine.Choice World). nat_lt x.stamp stamp ≡ false)) (sym (oldest d ds))
+        (all-append (λ (x : machine.Choice World). nat_lt x.stamp stamp ≡ false) (choices_of names base h ds) (choice_of names base h d ∷ []) rest.1 (no, tt)),
+      )
+
+  pub cut_is : (cs : List Choice) → StampsRise cs → choices_of names base h (filter (is_before stamp) cs) ≡ cut_from stamp (choices_of names base h cs)
+  cut_is [] r = refl
+  cut_is (c ∷ cs) r = by (nat_lt c.stamp stamp) refl (cut_is cs r.1)
+    where
+      by : (b : Bool) → nat_lt c.stamp stamp ≡ b → choices_of names base h (filter (is_before stamp) cs) ≡ cut_from stamp (choices_of names base h cs) → choices_of names base h (filter (is_before stamp) (c ∷ cs)) ≡ cut_from stamp (choices_of names base h (c ∷ cs))
+      by true e ih =
+          ap (λ b. choices_of names base h (cond b (c ∷ filter (is_before stamp) cs) (filter (is_before stamp) cs))) e
+          ∙ oldest c (filter (is_before stamp) cs)
+          ∙ ap (λ l. l ++ choice_of names base h c ∷ []) ih
+          ∙ sym (stays-below (choices_of names base h cs) (choice_of names base h c) e)
+          ∙ ap (cut_from stamp) (sym (oldest c cs))
+      by false e ih =
+          let rest = later c cs e r.0 in
+          ap (λ b. choices_of names base h (cond b (c ∷ filter (is_before stamp) cs) (filter (is_before stamp) cs))) e
+          ∙ ap (choices_of names base h) rest.0
+          ∙ sym (ap (cut_from stamp) (oldest c cs)
+          ∙ all-go (choices_of names base h cs ++ choice_of names base h c ∷ [])
+            (all-append (λ (x : machine.Choice World). nat_lt x.stamp stamp ≡ false) (choices_of names base h cs) (choice_of names base h c ∷ []) rest.1 (e, tt)))

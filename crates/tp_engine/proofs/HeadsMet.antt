@@ -1,5 +1,5 @@
 -- Goals met with the heads of clauses, and clauses entered.
-use Rattle.std.proofs.Common.{◌≡◌, ℕ, zero, suc, ◌+◌, ◌<◌, ◌≤◌, Bool, true, false, if◌then◌else◌, List, [], ◌∷◌, ◌++◌, map, length, drop, get_or, slice_get, Option, Some, None, is_some, refl, ap, sym, subst, ◌∙◌, arith, length-append}
+use Rattle.std.proofs.Common.{◌≡◌, ℕ, zero, suc, ◌+◌, ◌<◌, ◌≤◌, Bool, true, false, if◌then◌else◌, List, [], ◌∷◌, ◌++◌, map, length, drop, get_or, slice_get, Option, Some, None, is_some, refl, ap, sym, subst, ◌∙◌, arith, length-append, append_assoc}
 use Rattle.std.specs.Option.{option_map}
 use Rattle.std.specs.List.{position_from}
 use Rattle.std.proofs.lemmas.Option.{slice_get_within, slice_get-get_or, get_or_from_slice_get}
@@ -7,6 +7,8 @@ use Rattle.tp_terms.specs.declared.cells.Cell.{Cell}
 use Rattle.tp_terms.specs.declared.cells.Cell.TheVariants as cell
 use Rattle.tp_terms.specs.declared.cells.Ref.{Ref}
 use Rattle.tp_terms.specs.declared.world.StoreMark.{StoreMark}
+use Rattle.tp_log.specs.declared.entry.Entry.{Entry}
+use Rattle.tp_state.specs.Going.{StoreGrows}
 use Rattle.tp_terms.specs.Term.{Name, Term, Comp, term_of}
 use Rattle.tp_terms.specs.Shown.{name_at, shows, shown_from, args_at, AreBuilt, StandsBefore, AreNamed}
 use Rattle.tp_terms.proofs.ShownLemmas.{shows-cell}
@@ -14,6 +16,7 @@ use Rattle.tp_meaning.specs.Subst.{Subst, mgu}
 use Rattle.tp_meaning.specs.Clauses.{Clause, Base, renamed, head_of}
 use Rattle.tp_store.specs.Contents.{Contents, IsStore, Names, Keeps, AddsCells, AddsPairs, CanGoBack, with_vars, subst_of, cut_to_mark}
 use Rattle.tp_store.specs.Copy.{IsClaimed}
+use Rattle.tp_store.specs.Logged.{LogsHead}
 use Rattle.tp_store.proofs.StoreLemmas.{can_go_back, went_back}
 use Rattle.tp_clauses.specs.declared.base.ClauseId.{ClauseId}
 use Rattle.tp_clauses.specs.declared.base.ClauseView.{ClauseView}
@@ -141,26 +144,27 @@ hit_later t n xs x more e h = ap (position_from t n) e ∙ ap (λ b. if b then S
 
 -- ---- a clause entered
 
-module _ (names : List Name) (goal : ℕ) (cells : List Cell) (t : ClauseView) (old claimed mid new : Contents) (vars : claimed ≡ with_vars old t.vars) (adds : AddsCells claimed mid) (keeps : Keeps claimed mid) (base head : ℕ) (met : Bool)
-    (first : base ≡ old.vars) (within : goal < length old.cells) (shown : shows names mid.cells head ≡ renamed base (head_term names cells t))
-    (found : mgu (subst_of names mid) (shows names mid.cells goal) (shows names mid.cells head) ≡ (if met then Some (subst_of names new) else None))
-    (pairs : AddsPairs mid new) (named : AreNamed (length names) mid.cells) where
+module _ (names : List Name) (goal : ℕ) (cells : List Cell) (t : ClauseView) (old claimed new : Contents) (before after : List Entry) (vars : claimed ≡ with_vars old t.vars) (base : ℕ) (met : Bool) (first : base ≡ old.vars)
+    (found : mgu (subst_of names claimed) (shows names claimed.cells goal) (renamed base (head_term names cells t)) ≡ (if met then Some (subst_of names new) else None))
+    (logged : LogsHead claimed new before after) (keeps : (at : ℕ) → at < length claimed.cells → shows names new.cells at ≡ shows names claimed.cells at) (named : AreNamed (length names) new.cells) where
   unified : is_some (unifier names old goal (head_term names cells t)) ≡ true → unifier names old goal (head_term names cells t) ≡ Some (subst_of names new)
   unified h =
-      let same = mid_unifier old claimed mid t.vars vars adds keeps names base goal head (head_term names cells t) first within shown in
-      was_found met (subst_of names new) (unifier names old goal (head_term names cells t)) (sym same ∙ found) h
+      was_found met (subst_of names new) (unifier names old goal (head_term names cells t))
+      (sym (ap (λ (c : Contents). mgu (subst_of names c) (shows names c.cells goal) (renamed base (head_term names cells t))) vars
+            ∙ ap (λ b. mgu (subst_of names old) (shows names old.cells goal) (renamed b (head_term names cells t))) first)
+       ∙ found) h
 
   new_vars : new.vars ≡ old.vars + t.vars
-  new_vars = pairs.vars ∙ mid_vars old claimed mid t.vars vars adds keeps
+  new_vars = logged.vars ∙ ap (λ (c : Contents). c.vars) vars
+
+  new_cells : new.cells ≡ old.cells ++ logged.more_cells
+  new_cells = logged.cells ∙ ap (λ (c : Contents). c.cells ++ logged.more_cells) vars
 
   new_longer : length old.cells ≤ length new.cells
-  new_longer = let h = mid_longer old claimed mid t.vars vars adds keeps in omega (arith, ap length pairs.cells)
+  new_longer = omega (arith, ap length new_cells, length-append old.cells logged.more_cells)
 
   new_kept : (at : ℕ) → at < length old.cells → shows names new.cells at ≡ shows names old.cells at
-  new_kept at lt = ap (λ cs. shows names cs at) pairs.cells ∙ mid_kept old claimed mid t.vars vars adds keeps names at lt
-
-  new_named : AreNamed (length names) new.cells
-  new_named = subst (AreNamed (length names)) (sym pairs.cells) named
+  new_kept at lt = keeps at (subst (λ (c : Contents). at < length c.cells) (sym vars) lt) ∙ ap (λ (c : Contents). shows names c.cells at) vars
 
   pub entered_none : t.body ≡ None → EntersClause names goal cells t old None new
   entered_none e = record {
@@ -170,7 +174,7 @@ module _ (names : List Name) (goal : ℕ) (cells : List Cell) (t : ClauseView) (
     kept = new_kept;
     body = ap (λ o. option_map (renamed old.vars) (option_map (λ (r : Ref). shows names cells r.at) o)) (sym e);
     within = tt;
-    atoms = new_named;
+    atoms = named;
   }
 
   pub entered_some : (last : Contents) (b r : Ref) → AddsCells new last → Keeps new last → t.body ≡ Some b → shows names last.cells r.at ≡ renamed base (shows names cells b.at) → r.at < length last.cells → AreNamed (length names) last.cells → EntersClause names goal cells t old (Some r) last
@@ -183,6 +187,36 @@ module _ (names : List Name) (goal : ℕ) (cells : List Cell) (t : ClauseView) (
     within = lt;
     atoms = all;
   }
+
+-- names for the cells behind a head
+pub head_names : (names : List Name) (cells : List Cell) (old claimed new : Contents) (n : ℕ) → claimed ≡ with_vars old n → AreNamed (length names) cells → Names names old.cells → ((k : ℕ) → AreNamed k cells → AreNamed k claimed.cells → AreNamed k new.cells) → AreNamed (length names) new.cells
+head_names names cells old claimed new n vars named h more = more (length names) named (subst (λ (c : Contents). AreNamed (length names) c.cells) (sym vars) h.named)
+
+pub claimed_names : (names : List Name) (old claimed : Contents) (n : ℕ) → claimed ≡ with_vars old n → Names names old.cells → Names names claimed.cells
+claimed_names names old claimed n vars h = subst (λ (c : Contents). Names names c.cells) (sym vars) h
+
+-- the store grew by that
+pub grows_none : (old claimed new : Contents) (before after : List Entry) (n : ℕ) → claimed ≡ with_vars old n → LogsHead claimed new before after → StoreGrows old new before after
+grows_none old claimed new before after n vars l = record {
+  more_cells = l.more_cells;
+  more = l.more;
+  cells = l.cells ∙ ap (λ (c : Contents). c.cells ++ l.more_cells) vars;
+  pairs = l.pairs ∙ ap (λ (c : Contents). l.more ++ c.pairs) vars;
+  vars = omega (arith, l.vars, ap (λ (c : Contents). c.vars) vars);
+  log = l.log;
+}
+
+pub grows_some : (old claimed new last : Contents) (before after : List Entry) (n : ℕ) → claimed ≡ with_vars old n → LogsHead claimed new before after → AddsCells new last → StoreGrows old last before after
+grows_some old claimed new last before after n vars l a =
+    let same : claimed.vars ≡ old.vars + n = ap (λ (c : Contents). c.vars) vars in
+    record {
+      more_cells = l.more_cells ++ a.more;
+      more = l.more;
+      cells = a.cells ∙ ap (λ cs. cs ++ a.more) (l.cells ∙ ap (λ (c : Contents). c.cells ++ l.more_cells) vars) ∙ append_assoc old.cells l.more_cells a.more;
+      pairs = a.pairs ∙ l.pairs ∙ ap (λ (c : Contents). l.more ++ c.pairs) vars;
+      vars = omega (arith, same, l.vars, a.vars);
+      log = l.log;
+    }
 
 -- the clause of a place, and the view that the code reads there
 module _ (names : List Name) (b : kept.Contents) (cs : Base) (ps : List ClauseId) (h : clauses_at names b ps ≡ map Some cs) (k : ℕ) (i : ClauseId) (at : slice_get ps k ≡ Some i) where

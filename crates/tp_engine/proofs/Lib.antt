@@ -1,11 +1,10 @@
-pub mod ListsLinked
 mod Raised
 pub mod HeadsMet
 pub mod Worlds
 pub mod Program
 pub mod Begun
 pub mod Rewound
-pub mod Marked
+pub mod Choices
 pub mod Step
 mod GoalsMet
 mod Cut

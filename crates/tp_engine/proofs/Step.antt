@@ -1,6 +1,7 @@
 -- Steps of the machine are those of its world.
 pub mod Parts
 pub mod First
+pub mod Newest
 pub mod Control
 pub mod Items
 pub mod Schedule

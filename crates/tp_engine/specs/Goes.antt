@@ -1,5 +1,5 @@
 -- Parts of a step: a choice that is kept, and contents that the machine goes on to.
-use Rattle.std.specs.Prelude.{◌≡◌, ℕ, ◌+◌, ◌<◌, ◌^◌, ◌-◌, List, ◌∷◌, length, All}
+use Rattle.std.specs.Prelude.{◌≡◌, ℕ, ◌+◌, ◌<◌, ◌^◌, ◌-◌, List, ◌∷◌, length, IfSome}
 use Rattle.tp_terms.specs.Names.{IsTable, Grows}
 use Rattle.tp_meaning.specs.World.{World}
 use Rattle.tp_meaning.specs.Machine.{IsChoice, with_choice}
@@ -8,10 +8,12 @@ use Rattle.tp_meaning.proofs.Holds.{ChoiceHolds, Stands}
 use Rattle.tp_control.specs.declared.choices.Alt.{Alt}
 use Rattle.tp_control.specs.declared.choices.Alt.TheVariants.{Clause}
 use Rattle.tp_engine.specs.declared.machine.Machine.{Machine}
-use Rattle.tp_state.specs.State.{plain_of}
+use Rattle.tp_control.specs.Stamps.{newest}
+use Rattle.tp_state.specs.Going.{IsSafe, Follows}
+use Rattle.tp_state.specs.State.{plain_of, held_of}
 use Rattle.tp_state.specs.Stands.{PlainStands}
 use Rattle.tp_engine.specs.Untried.{untried}
-use Rattle.tp_engine.specs.Machine.{ChoiceFits, GoesOn, IsMachine, base_in, choices_of, open_at, world_in}
+use Rattle.tp_engine.specs.Machine.{ChoicesFit, GoesOn, IsMachine, base_in, choices_in, choices_of, open_at, world_in}
 
 -- what is next in the machine's world
 abbrev pub untried_in : Machine → Alt → List World
@@ -21,15 +23,17 @@ untried_in m next = untried (base_in m) (world_in m) next
 pub record MayKeep (m : Machine) (next : Alt) : Type 0 where
   pub stands : PlainStands m.atoms (plain_of m.state)
   pub goes_on : GoesOn m.atoms (base_in m) (plain_of m.state) next
-  pub choices : All (ChoiceFits m.atoms (base_in m)) m.choices
+  pub safe : IsSafe (held_of m.state)
+  pub choices : ChoicesFit m.atoms (base_in m) (held_of m.state) m.choices
+  pub below : IfSome (newest m.choices) (λ c. c.stamp < m.stamp)
   pub left : 0 < length (untried_in m next)
 
 -- a choice of these worlds was kept, where there are any; all else stays
 pub record KeepsWorlds (old : Machine) (more : List World) (new : Machine) : Type 0 where
-  pub same : new ≡ record old { state = new.state; choices = new.choices }
-  pub plain : plain_of new.state ≡ plain_of old.state
-  pub fits : All (ChoiceFits old.atoms (base_in old)) new.choices
-  pub kept : choices_of old.atoms (base_in old) new.choices ≡ with_choice old.stamp (world_in old) more (choices_of old.atoms (base_in old) old.choices)
+  pub same : new ≡ record old { choices = new.choices }
+  pub fits : ChoicesFit old.atoms (base_in old) (held_of old.state) new.choices
+  pub kept : choices_of old.atoms (base_in old) (held_of old.state) new.choices
+      ≡ with_choice old.stamp (world_in old) more (choices_in old)
 
 -- a choice of what is next was kept
 abbrev pub IsKept : Machine → Alt → Machine → Type 0
@@ -41,6 +45,7 @@ pub record Goes (old new : Machine) : Type 0 where
   pub names : Grows old.atoms new.atoms
   pub table : IsTable new.atoms
   pub stands : PlainStands new.atoms (plain_of new.state)
+  pub follows : Follows (held_of old.state) (held_of new.state)
   pub stamp : new.stamp ≡ old.stamp + 1
 
 -- the clause at a place was entered: its world is the first of those from there on

@@ -1,9 +1,10 @@
 -- The machine of the code: its world and choices, and what holds of them.
-use Rattle.std.specs.Prelude.{◌≡◌, ℕ, Bool, true, false, nat_le, slice_get, ◌+◌, ◌-◌, ◌<◌, ◌≤◌, ◌^◌, List, [], ◌∷◌, ◌++◌, map, reverse, drop, length, Option, Some, None, All, IsTrue, is_some}
+use Rattle.std.specs.Prelude.{◌≡◌, ℕ, Bool, true, false, ◌+◌, ◌-◌, ◌<◌, ◌≤◌, ◌^◌, List, [], ◌∷◌, ◌++◌, map, reverse, drop, length, Option, Some, None, IsTrue, is_some}
 use Rattle.tp_terms.specs.declared.cells.Ref.{Ref}
 use Rattle.tp_terms.specs.Term.{Name, Term, Terms, term_of, count_of}
 use Rattle.tp_terms.specs.Shown.{AreNamed}
 use Rattle.tp_terms.specs.Names.{IsTable, Grows}
+use Rattle.std.specs.List.{AllByRecursion}
 use Rattle.tp_meaning.specs.World.{World, start}
 use Rattle.tp_meaning.specs.Body.{body}
 use Rattle.tp_meaning.specs.Goals.{goal_kind}
@@ -29,7 +30,9 @@ use Rattle.tp_control.specs.Lists.{items_at}
 use Rattle.tp_engine.specs.Heads.{hits}
 use Rattle.tp_state.specs.Plain.{Plain, world_of}
 use Rattle.tp_state.specs.Stands.{PlainStands}
-use Rattle.tp_state.specs.State.{plain_of}
+use Rattle.tp_state.specs.Going as going
+use Rattle.tp_state.specs.Going.{Held, IsSafe, Within, Under}
+use Rattle.tp_state.specs.State.{plain_of, held_of}
 use Rattle.tp_engine.specs.Untried.{untried}
 
 -- ---- the program
@@ -52,20 +55,17 @@ pub record SameProgram (old new : Machine) : Type 0 where
 
 -- ---- worlds and choices
 
--- a choice, by its place of the untried worlds of its world
+-- a choice's world and those that are left of it
 abbrev pub open_at : Base → World → ℕ → Alt → machine.Choice World
 open_at base w stamp next = record { stamp = stamp; world = w; untried = untried base w next }
 
-abbrev pub choice_of : List Name → Base → Choice → machine.Choice World
-choice_of names base c = open_at base (world_of names (plain_of c.state) c.stamp) c.stamp c.next
+-- a choice, whose world is that of the contents at its marks
+abbrev pub choice_of : List Name → Base → Held → Choice → machine.Choice World
+choice_of names base h c = open_at base (world_of names (going.rewound h c.marks) c.stamp) c.stamp c.next
 
 -- the choices of a stack, the newest of which comes first
-abbrev pub choices_of : List Name → Base → List Choice → List (machine.Choice World)
-choices_of names base cs = map (choice_of names base) (reverse cs)
-
--- the newest choice of a stack has this stamp or a higher one
-abbrev pub newest_from : ℕ → List Choice → Bool
-newest_from stamp cs = elim (slice_get cs (length cs - 1)) [ None ↦ false | Some c ↦ nat_le stamp c.stamp ]
+abbrev pub choices_of : List Name → Base → Held → List Choice → List (machine.Choice World)
+choices_of names base h cs = map (choice_of names base h) (reverse cs)
 
 -- after going back: the choice whose contents are those of the machine
 abbrev pub waiting_of : Base → World → ℕ → Option Alt → List (machine.Choice World)
@@ -75,8 +75,12 @@ waiting_of base w stamp (Some next) = open_at base w stamp next ∷ []
 abbrev pub world_in : Machine → World
 world_in m = world_of m.atoms (plain_of m.state) m.stamp
 
+-- the choices that stand open below the current world
+abbrev pub choices_in : Machine → List (machine.Choice World)
+choices_in m = choices_of m.atoms (base_in m) (held_of m.state) m.choices
+
 abbrev pub open_in : Machine → List (machine.Choice World)
-open_in m = waiting_of (base_in m) (world_in m) m.stamp m.waiting ++ choices_of m.atoms (base_in m) m.choices
+open_in m = waiting_of (base_in m) (world_in m) m.stamp m.waiting ++ choices_in m
 
 abbrev pub state_in : Machine → machine.State World
 state_in m = record { world = world_in m; choices = open_in m }
@@ -124,10 +128,23 @@ pub record IsAgain (p : Plain) : Type 0 where
 abbrev pub GoesOn : List Name → Base → Plain → Alt → Type 0
 GoesOn names base p (alt.Clause place) = IsHit names base p place
 GoesOn names base p alt.Second = IsAgain p
+GoesOn names base p (alt.Message place) = ⊥
 
-pub record ChoiceFits (names : List Name) (base : Base) (c : Choice) : Type 0 where
-  pub stands : PlainStands names (plain_of c.state)
-  pub next : GoesOn names base (plain_of c.state) c.next
+-- A choice whose marks can be gone back to, and whose next world can be gone on with there.
+pub record ChoiceFits (names : List Name) (base : Base) (h : Held) (c : Choice) : Type 0 where
+  pub within : Within c.marks h
+  pub stands : PlainStands names (going.rewound h c.marks)
+  pub next : GoesOn names base (going.rewound h c.marks) c.next
+
+-- no marks were made later than those of newer choices
+abbrev pub MarksRise : List Choice → Type 0
+MarksRise [] = Unit {0}
+MarksRise (c ∷ cs) = AllByRecursion (λ (d : Choice). Under d.marks c.marks) cs × MarksRise cs
+
+-- the stack of choices fits what is held
+pub record ChoicesFit (names : List Name) (base : Base) (h : Held) (cs : List Choice) : Type 0 where
+  pub fits : AllByRecursion (ChoiceFits names base h) cs
+  pub rise : MarksRise cs
 
 -- ---- the machine
 
@@ -136,7 +153,8 @@ pub record IsMachine (m : Machine) : Type 0 where
   pub going : m.waiting ≡ None
   pub program : IsProgram m
   pub stands : PlainStands m.atoms (plain_of m.state)
-  pub choices : All (ChoiceFits m.atoms (base_in m)) m.choices
+  pub safe : IsSafe (held_of m.state)
+  pub choices : ChoicesFit m.atoms (base_in m) (held_of m.state) m.choices
   pub worlds : Holds (Stands m.goal.now.vars) (state_in m)
   pub stack : HasStack (searched (base_in m)) (state_in m)
 

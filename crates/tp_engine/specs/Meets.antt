@@ -23,7 +23,8 @@ use Rattle.tp_engine.specs.declared.task.Met.{Met}
 use Rattle.tp_engine.specs.declared.task.Met.TheVariants as met
 use Rattle.tp_engine.specs.declared.errors.Cause.{Cause}
 use Rattle.tp_engine.specs.declared.errors.Cause.TheVariants as cause
-use Rattle.tp_state.specs.Acts.{is_marked, is_late}
+use Rattle.tp_procs.specs.Processes.{is_marked}
+use Rattle.tp_state.specs.Acts.{is_late}
 use Rattle.tp_control.specs.Lists.{items_at}
 use Rattle.tp_state.specs.State.{plain_of}
 use Rattle.tp_state.specs.Stands.{ItemStands}

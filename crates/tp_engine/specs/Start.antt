@@ -12,21 +12,7 @@ use Rattle.tp_parse.specs.declared.read.ReadTerm.{ReadTerm}
 use Rattle.tp_control.specs.declared.frames.Item.TheVariants.{Goal}
 use Rattle.tp_engine.specs.Program.{goal_term}
 use Rattle.tp_state.specs.Plain.{Plain}
-
--- `main` waits for its start with a goal
-abbrev pub waiting_at : Contents → Ref → Plain
-waiting_at c goal = record {
-  store = c;
-  frames = (Goal goal 0 ∷ []) ∷ [];
-  procs = record { name = MAIN; end = limit.Inf; started = false; status = status.Scheduled; items = Some (record { at = 0 }) } ∷ [];
-  slots = record { time = pos 0; number = 0; pid = 0 } ∷ [];
-  boxes = [] ∷ [];
-  events = [];
-  clock = pos 0;
-  insertion = 1;
-  running = None;
-  items = None;
-}
+use Rattle.tp_state.specs.Start.{waiting_at}
 
 -- a place for the body of a goal in a store that holds nothing else
 pub record IsPlaced (names : List Name) (goal : ReadTerm) (place : Ref) (c : Contents) : Type 0 where

@@ -9,7 +9,7 @@ use Rattle.tp_meaning.specs.Goals.{goal_kind}
 use Rattle.tp_meaning.specs.Process.{await_again}
 use Rattle.tp_meaning.specs.Clauses.{Base, predicate, worlds_of}
 use Rattle.tp_control.specs.declared.choices.Alt.{Alt}
-use Rattle.tp_control.specs.declared.choices.Alt.TheVariants.{Clause, Second}
+use Rattle.tp_control.specs.declared.choices.Alt.TheVariants.{Clause, Second, Message}
 
 -- the second of two worlds
 abbrev pub second_of : Gives → List World
@@ -30,6 +30,7 @@ untried_goal base t (Comp f ts) alt = untried_clauses base t f ts (goal_kind f (
 abbrev pub untried_again : Turn → Term → Alt → List World
 untried_again t g Second = second_of (await_again t g)
 untried_again t g (Clause place) = []
+untried_again t g (Message place) = []
 
 -- by the first item and what is next; none where they don't belong together
 abbrev pub untried_by : Base → World → ℕ → List Item → Alt → List World

@@ -3,13 +3,13 @@
 ghost use Rattle.std.specs.Prelude.{OnErr, ◌≡◌, ◌+◌, ◌<◌, ◌^◌, ◌-◌, Some, None, IfOk, IfSome, OnOk, length, slice_get, map, drop};
 
 use crate::errors::Cause;
-use tp_control::Item;
 use crate::goals::met;
 use crate::heads::{enter_clause, meets};
-use crate::machine::{Alt, Machine};
+use crate::machine::Machine;
 use crate::phase::Stepped;
 use crate::task::{Call, Met, Task};
 use tp_clauses::ClauseId;
+use tp_control::{Alt, Item};
 use tp_meaning::DeadCause;
 use tp_terms::NoMemory;
 

@@ -7,10 +7,14 @@ ghost use Rattle.tp_terms.specs.Shown.{AreNamed};
 ghost use Rattle.tp_store.specs.Contents.{IsStore, Names};
 ghost use Rattle.std.specs.Prelude.{is_some};
 ghost use Rattle.tp_clauses.specs.Contents.{ViewFits};
+ghost use Rattle.tp_state.specs.Acts.{with_store};
+ghost use Rattle.tp_state.specs.Going.{Follows};
+ghost use Rattle.tp_state.specs.State.{plain_of, held_of};
 ghost use Rattle.tp_engine.specs.Program.{head_term};
 ghost use Rattle.tp_engine.specs.Heads.{EntersClause, unifier};
 
 use tp_clauses::ClauseView;
+use tp_state::State;
 use tp_store::Store;
 use tp_terms::{Cells, NoMemory, Ref};
 

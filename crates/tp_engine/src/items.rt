@@ -57,6 +57,8 @@ impl<'a> Machine<'a> {
         requires first { HasFirst self.old _process (Item.Commit stamp) rest }
         ensures { Steps self.old self.new result }
     {
+        // Its contract says that stamps rise.
+        let _open = self.choices.len();
         self.state.items = rest;
         self.choices.cut_from(stamp);
         self.stamp += 1;

@@ -29,7 +29,8 @@ use Rattle.tp_engine.specs.declared.tally.Tally.{Tally}
 use Rattle.tp_meaning.specs.declared.DeadCause.TheVariants.{Failed, Deadlock, Late}
 use Rattle.tp_engine.specs.Answers.{Answer, Leaves, Takes, Took, IsCutShort, numbered}
 use Rattle.tp_engine.specs.Ended.{AnswerStands, Finds, RaisedStands, Reaches, after_turns, end_of, last_world, turns_of}
-use Rattle.tp_engine.specs.Machine.{IsMachine, base_in, choices_of, state_in, waiting_of, world_in}
+use Rattle.tp_state.specs.State.{held_of}
+use Rattle.tp_engine.specs.Machine.{IsMachine, base_in, choices_in, choices_of, state_in, waiting_of, world_in}
 use Rattle.tp_engine.specs.Run.{EndsAt, IsCut, IsCutAt, IsRun, Turns, answers_by, counted, at_end, at_start, ended_by, found_by, next_answer, tally_of, turn_to}
 use Rattle.tp_engine.specs.Told.{seen_of}
 use Rattle.tp_engine.proofs.Finds.Taken.{numbered-append, took-append}
@@ -75,8 +76,8 @@ last-append (x ∷ y ∷ xs) w n = last-append (y ∷ xs) w n
 -- a machine without choices
 state_alone : (m : Machine) → IsMachine m → m.choices ≡ [] → state_in m ≡ record { world = world_in m; choices = [] }
 state_alone m is none =
-    ap (λ (o : Option Alt). record { world = world_in m; choices = waiting_of (base_in m) (world_in m) m.stamp o ++ choices_of m.atoms (base_in m) m.choices }) is.going
-    ∙ ap (λ (cs : List Choice). record { world = world_in m; choices = choices_of m.atoms (base_in m) cs }) none
+    ap (λ (o : Option Alt). record { world = world_in m; choices = waiting_of (base_in m) (world_in m) m.stamp o ++ choices_in m }) is.going
+    ∙ ap (λ (cs : List Choice). record { world = world_in m; choices = choices_of m.atoms (base_in m) (held_of m.state) cs }) none
 
 module _ {A : Type 0} (takes : Takes A) (start : Machine) (k : ℕ) (first : A) where
   abbrev x : Searched World Term

@@ -79,17 +79,16 @@ module _ (m : Machine) (place : ℕ) (back : Returns m (alt.Clause place)) (t : 
 -- what was kept doesn't change what is entered
 module _ (m mid : Machine) (next : _) (k : IsKept m next mid) where
   plain-same : plain_of mid.state ≡ plain_of m.state
-  plain-same = k.plain
+  plain-same = ap (λ (x : Machine). plain_of x.state) k.same
 
   pub untried-same : (n : _) → untried_in mid n ≡ untried_in m n
   untried-same n =
-      ap (λ (x : Machine). untried (base_of x.atoms x.base.now) (world_of x.atoms (plain_of mid.state) x.stamp) n) k.same
-      ∙ ap (λ (p : Plain). untried (base_in m) (world_of m.atoms p m.stamp) n) k.plain
+      ap (λ (x : Machine). untried (base_of x.atoms x.base.now) (world_of x.atoms (plain_of x.state) x.stamp) n) k.same
 
   pub hits_kept : (t : Task) (c : Call) (place : ℕ) → Hits m t c place → Hits mid t c place
-  hits_kept t c place h = subst (λ (x : Machine). Hits x t c place) (sym k.same) (at_state mid.state mid.choices k.plain)
+  hits_kept t c place h = subst (λ (x : Machine). Hits x t c place) (sym k.same) (at_state m.state mid.choices refl)
     where
-      at_state : (s : State) (cs : Vec Choice Global) → plain_of s ≡ plain_of m.state → Hits (record m { state = s; choices = cs }) t c place
+      at_state : (s : State) (cs : List Choice) → plain_of s ≡ plain_of m.state → Hits (record m { state = s; choices = cs }) t c place
       at_state s cs e =
           let f = h.calls.meets in
           record {

@@ -35,7 +35,8 @@ use Rattle.tp_state.specs.declared.state.State.{State}
 use Rattle.tp_engine.specs.declared.phase.Stepped.TheVariants as answer
 use Rattle.tp_engine.specs.declared.task.Task.{Task}
 use Rattle.tp_engine.specs.declared.task.Call.{Call}
-use Rattle.tp_state.specs.State.{plain_of}
+use Rattle.tp_state.specs.Going as going
+use Rattle.tp_state.specs.State.{plain_of, held_of}
 use Rattle.tp_engine.specs.Program.{head_term}
 use Rattle.tp_control.specs.Lists.{items_at}
 use Rattle.tp_state.specs.Plain.{Plain, item_of, items_of, world_of}
@@ -43,7 +44,8 @@ use Rattle.tp_state.specs.Stands.{PlainStands}
 use Rattle.tp_state.specs.Acts.{resting, bodied}
 use Rattle.tp_engine.specs.Heads.{unifier, hits, EntersClause}
 use Rattle.tp_engine.specs.Untried.{untried_by, untried_goal, untried_clauses}
-use Rattle.tp_engine.specs.Machine.{IsMachine, Steps, base_in, world_in, choices_of}
+use Rattle.tp_engine.specs.Machine.{IsMachine, Steps, base_in, world_in, choices_in}
+use Rattle.tp_engine.proofs.Step.Newest.{newest_below}
 use Rattle.tp_engine.specs.Meets.{Calls, Hits, IsUnknown, args_seen, clauses_of, found_from}
 use Rattle.tp_engine.specs.Goes.{MayKeep, IsKept, Enters, untried_in}
 use Rattle.tp_engine.proofs.Worlds.Items.{OtherItems, other-stands, other-world, other-rest, other-push, pushed-items, list_stands}
@@ -217,7 +219,9 @@ module _ (m : Machine) (t : Task) (c : Call) (h : Calls m t c None) where
       hit = hit.hit;
       few = few;
     };
+    safe = is.safe;
     choices = is.choices;
+    below = newest_below m is;
     left = left;
   }
 
@@ -225,17 +229,15 @@ module _ (m : Machine) (t : Task) (c : Call) (h : Calls m t c None) where
   pub kept_from : (n k : ℕ) (new : Machine) → untried_in m (alt.Clause n) ≡ untried_in m (alt.Clause k) → IsKept m (alt.Clause k) new → IsKept m (alt.Clause n) new
   kept_from n k new e i = record {
     same = i.same;
-    plain = i.plain;
     fits = i.fits;
-    kept = i.kept ∙ ap (λ ws. with_choice m.stamp (world_in m) ws (choices_of m.atoms (base_in m) m.choices)) (sym e);
+    kept = i.kept ∙ ap (λ ws. with_choice m.stamp (world_in m) ws (choices_in m)) (sym e);
   }
 
   pub kept_none : (n : ℕ) → IsMachine m → found_from m t c n ≡ None → IsKept m (alt.Clause n) m
   kept_none n is e = record {
     same = refl;
-    plain = refl;
     fits = is.choices;
-    kept = sym (ap (λ ws. with_choice m.stamp (world_in m) ws (choices_of m.atoms (base_in m) m.choices)) (none_untried n e));
+    kept = sym (ap (λ ws. with_choice m.stamp (world_in m) ws (choices_in m)) (none_untried n e));
   }
 
   -- ---- steps
@@ -399,15 +401,15 @@ module _ (m : Machine) (t : Task) (c : Call) (place : ℕ) (h : Hits m t c place
         ∙ sym (at_place-map (process_under u) (λ (x : world.Process). record x { items = these }) (λ (x : world.Process). record x { items = map (item_under u) these }) (λ x. refl) r w.processes)
         )
 
-    pub enters : (s : State) → plain_of s ≡ bodied body m.stamp (record (resting t.rest (plain_of m.state)) { store = new }) → Enters m place (record m { state = s; stamp = m.stamp + 1 })
-    enters s es =
+    pub enters : (s : State) → going.Follows (held_of m.state) (held_of s) → plain_of s ≡ bodied body m.stamp (record (resting t.rest (plain_of m.state)) { store = new }) → Enters m place (record m { state = s; stamp = m.stamp + 1 })
+    enters s f es =
         let goal = seen m.atoms m.state.store t.goal.at in
         let turn = turn_in m t.process t.rest in
         let found : mgu (subst_of m.atoms m.state.store) goal (renamed m.state.store.vars (head_of d)) ≡ Some u = mgu-seen (subst_of m.atoms m.state.store) (shows m.atoms m.state.store.cells t.goal.at) (renamed m.state.store.vars (head_of d)) is_subst ∙ mgu_is in
         let first : try_clause turn goal d ≡ Some (world_under u (by_clause turn d)) = ap (λ o. elim o as (λ _. Option World) [ None ↦ None | Some v ↦ Some (world_under v (by_clause turn d)) ]) found in
         let world_is : world_of m.atoms (plain_of s) (m.stamp + 1) ≡ world_under u (by_clause turn d) = ap (λ (x : Plain). world_of m.atoms x (m.stamp + 1)) es ∙ entered-world in
         record {
-          goes = record { same = refl; names = Grows-same m.atoms; table = h.calls.meets.standing.program.table; stands = subst (PlainStands m.atoms) (sym es) (other-stands m.atoms stored (bodied body m.stamp stored) stands2 other3); stamp = refl };
+          goes = record { same = refl; names = Grows-same m.atoms; table = h.calls.meets.standing.program.table; stands = subst (PlainStands m.atoms) (sym es) (other-stands m.atoms stored (bodied body m.stamp stored) stands2 other3); follows = f; stamp = refl };
           world = untried_is m t c h.calls place ∙ ap (filter_map (try_clause turn goal)) next
               ∙ ap (λ o. cons_option o (filter_map (try_clause turn goal) (drop (place + 1) (clauses_of m c)))) (first ∙ ap Some (sym world_is))
               ∙ ap (λ ws. world_of m.atoms (plain_of s) (m.stamp + 1) ∷ ws) (sym (untried_is m t c h.calls (place + 1)));

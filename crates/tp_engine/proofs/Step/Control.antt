@@ -29,7 +29,8 @@ use Rattle.tp_state.specs.declared.state.State.{State}
 use Rattle.tp_engine.specs.declared.phase.Stepped.TheVariants as answer
 use Rattle.tp_engine.specs.declared.task.Task.{Task}
 use Rattle.tp_engine.specs.declared.task.Call.{Call}
-use Rattle.tp_state.specs.State.{plain_of}
+use Rattle.tp_state.specs.Going as going
+use Rattle.tp_state.specs.State.{plain_of, held_of}
 use Rattle.tp_control.specs.Lists.{items_at}
 use Rattle.tp_state.specs.Plain.{Plain, item_of, world_of}
 use Rattle.tp_state.specs.Acts.{pushed, resting}
@@ -41,12 +42,13 @@ use Rattle.tp_engine.proofs.Step.First.{call-gives, count-seen, rest_in, turn_in
 use Rattle.tp_engine.proofs.Step.Parts.{to_one, to_none}
 
 -- the machine goes on with other items
-pub other-goes : (m : Machine) (s : State) (n : ℕ) → IsMachine m → OtherItems m.atoms (plain_of m.state) (plain_of s) → n ≡ m.stamp + 1 → Goes m (record m { state = s; stamp = n })
-other-goes m s n is o e = record {
+pub other-goes : (m : Machine) (s : State) (n : ℕ) → IsMachine m → OtherItems m.atoms (plain_of m.state) (plain_of s) → going.Follows (held_of m.state) (held_of s) → n ≡ m.stamp + 1 → Goes m (record m { state = s; stamp = n })
+other-goes m s n is o f e = record {
   same = refl;
   names = Grows-same m.atoms;
   table = is.program.table;
   stands = other-stands m.atoms (plain_of m.state) (plain_of s) is.stands o;
+  follows = f;
   stamp = e;
 }
 
@@ -66,10 +68,10 @@ arg-is names c a (suc n) (suc k) lt = arg-is names c (suc a) n k (omega arith) �
 
 module _ (m : Machine) (t : Task) (c : Call) (is : IsMachine m) where
   -- `true`
-  pub succeeds : (s : State) → Calls m t c (Some (Control control.True)) → plain_of s ≡ resting t.rest (plain_of m.state) → Steps m (record m { state = s; stamp = m.stamp + 1 }) answer.Went
-  succeeds s h e =
+  pub succeeds : (s : State) → Calls m t c (Some (Control control.True)) → going.Follows (held_of m.state) (held_of s) → plain_of s ≡ resting t.rest (plain_of m.state) → Steps m (record m { state = s; stamp = m.stamp + 1 }) answer.Went
+  succeeds s h f e =
       let o = subst (OtherItems m.atoms (plain_of m.state)) (sym e) (other-rest m.atoms (plain_of m.state) t.rest h.meets.rest) in
-      to_one m (record m { state = s; stamp = m.stamp + 1 }) is (other-goes m s (m.stamp + 1) is o refl)
+      to_one m (record m { state = s; stamp = m.stamp + 1 }) is (other-goes m s (m.stamp + 1) is o f refl)
       (call-gives m t c (Some (Control control.True)) h
       ∙ ap one (sym (other-to m s (m.stamp + 1) t.process (items_at m.state.frames t.rest) is o refl h.meets.running (ap (λ (q : Plain). items_at q.frames q.items) e))))
 
@@ -82,8 +84,8 @@ module _ (m : Machine) (t : Task) (c : Call) (is : IsMachine m) where
   two h = fewest-fits (name_at m.atoms c.name.at) c.count (Control control.Conjunction) h.kind
 
   -- `,`
-  pub joins : (s s' : State) (second : Ref) → Calls m t c (Some (Control control.Conjunction)) → second.at ≡ c.first.at + 1 → plain_of s ≡ pushed (Goal second t.barrier) (resting t.rest (plain_of m.state)) → plain_of s' ≡ pushed (Goal c.first t.barrier) (plain_of s) → Steps m (record m { state = s'; stamp = m.stamp + 1 }) answer.Went
-  joins s s' second h es e e' =
+  pub joins : (s s' : State) (second : Ref) → Calls m t c (Some (Control control.Conjunction)) → second.at ≡ c.first.at + 1 → going.Follows (held_of m.state) (held_of s') → plain_of s ≡ pushed (Goal second t.barrier) (resting t.rest (plain_of m.state)) → plain_of s' ≡ pushed (Goal c.first t.barrier) (plain_of s) → Steps m (record m { state = s'; stamp = m.stamp + 1 }) answer.Went
+  joins s s' second h es f e e' =
       let p = plain_of m.state in
       let q = resting t.rest p in
       let n = length m.state.store.cells in
@@ -102,7 +104,7 @@ module _ (m : Machine) (t : Task) (c : Call) (is : IsMachine m) where
       let ts = args_seen m.atoms m.state.store c.first.at c.count in
       let first_is : arg 0 ts ≡ seen m.atoms m.state.store c.first.at = arg-is m.atoms m.state.store c.first.at c.count 0 (omega arith) ∙ ap (seen m.atoms m.state.store) (let z : c.first.at + 0 ≡ c.first.at = omega arith in z) in
       let second_is : arg 1 ts ≡ seen m.atoms m.state.store second.at = arg-is m.atoms m.state.store c.first.at c.count 1 (omega arith) ∙ ap (seen m.atoms m.state.store) (sym es) in
-      to_one m (record m { state = s'; stamp = m.stamp + 1 }) is (other-goes m s' (m.stamp + 1) is o refl)
+      to_one m (record m { state = s'; stamp = m.stamp + 1 }) is (other-goes m s' (m.stamp + 1) is o f refl)
       (call-gives m t c (Some (Control control.Conjunction)) h
       ∙ ap (λ x. one (going (turn_in m t.process t.rest) (world.Goal x t.barrier ∷ world.Goal (arg 1 ts) t.barrier ∷ rest_in m t.rest))) first_is
       ∙ ap (λ x. one (going (turn_in m t.process t.rest) (world.Goal (seen m.atoms m.state.store c.first.at) t.barrier ∷ world.Goal x t.barrier ∷ rest_in m t.rest))) second_is

@@ -22,13 +22,16 @@ use Rattle.tp_control.specs.declared.choices.Alt.TheVariants.{Second}
 use Rattle.tp_engine.specs.declared.machine.Machine.{Machine}
 use Rattle.tp_state.specs.declared.state.State.{State}
 use Rattle.tp_engine.specs.declared.phase.Stepped.TheVariants as answer
-use Rattle.tp_state.specs.State.{plain_of}
+use Rattle.tp_state.specs.Going as going
+use Rattle.tp_state.specs.State.{plain_of, held_of}
 use Rattle.tp_control.specs.Lists.{items_at}
 use Rattle.tp_state.specs.Plain.{Plain, item_of, items_of, world_of}
 use Rattle.tp_state.specs.Stands.{PlainStands}
 use Rattle.tp_state.specs.Acts.{pushed, resting, noted, left, mark_others}
+use Rattle.tp_state.proofs.GoingBack.Logs.{covers-same}
+use Rattle.tp_state.proofs.GoingBack.Follows.{adds, prolongs-same}
 use Rattle.tp_engine.specs.Untried.{untried_by, second_of}
-use Rattle.tp_engine.specs.Machine.{IsMachine, Steps, Resumes, base_in, world_in, choices_of, IsAgain}
+use Rattle.tp_engine.specs.Machine.{IsMachine, Steps, Resumes, base_in, world_in, choices_in, choices_of, IsAgain}
 use Rattle.tp_engine.specs.Meets.{Runs, HasFirst}
 use Rattle.tp_engine.specs.Goes.{Goes, MayKeep, IsKept, Returns, untried_in}
 use Rattle.tp_engine.proofs.Worlds.Items.{OtherItems, other-stands, other-rest, other-push, pushed-items}
@@ -36,14 +39,19 @@ use Rattle.tp_engine.proofs.Worlds.Procs.{left-stands, left-world, noted-stands,
 use Rattle.tp_engine.proofs.Step.First.{standing, first-step, item-step, process_there, there, rest_in, turn_in, items-there}
 use Rattle.tp_engine.proofs.Step.Parts.{to_one, to_branch, to_commit, resumes}
 use Rattle.tp_engine.proofs.Step.Control.{other-to}
+use Rattle.tp_engine.proofs.Step.Newest.{newest_below}
 
 -- ---- the end
 
+-- other items of the running process
+pub rest-follows : (s : State) (rest : Option ItemId) → going.Follows (held_of s) (held_of (record s { items = rest }))
+rest-follows s rest = adds (held_of s) (held_of (record s { items = rest })) refl refl (covers-same (held_of s).rooms) (prolongs-same s.store.cells) (omega arith) (prolongs-same s.frames) (prolongs-same s.events)
+
 pub ends : (m : Machine) (r : ℕ) (s1 s2 s3 : State) → Runs m r → m.state.items ≡ None
     → ((q : Proc) → slice_get m.state.procs r ≡ Some q → plain_of s1 ≡ left r q Ended (plain_of m.state))
-    → plain_of s2 ≡ noted r event.End (plain_of s1) → plain_of s3 ≡ record (plain_of s2) { procs = mark_others r (plain_of s2).procs }
+    → plain_of s2 ≡ noted r event.End (plain_of s1) → plain_of s3 ≡ record (plain_of s2) { procs = mark_others r (plain_of s2).procs } → going.Follows (held_of m.state) (held_of s3)
     → Steps m (record m { state = s3; stamp = m.stamp + 1 }) answer.Went
-ends m r s1 s2 s3 h none e1 e2 e3 =
+ends m r s1 s2 s3 h none e1 e2 e3 f =
     let is = h.machine in
     let names = m.atoms in
     let p = plain_of m.state in
@@ -59,7 +67,7 @@ ends m r s1 s2 s3 h none e1 e2 e3 =
     let st3 = marked-stands names (noted r event.End p1) r st2 in
     let w = world_in m in
     to_one m (record m { state = s3; stamp = m.stamp + 1 }) is
-    (record { same = refl; names = Grows-same names; table = is.program.table; stands = subst (PlainStands names) (sym is3) st3; stamp = refl })
+    (record { same = refl; names = Grows-same names; table = is.program.table; stands = subst (PlainStands names) (sym is3) st3; follows = f; stamp = refl })
     (first-step m r (standing m is) h.running
     ∙ ap (λ o. item_step (base_in m) w r (items_of names p o)) none
     ∙ ap one (sym (
@@ -71,12 +79,12 @@ ends m r s1 s2 s3 h none e1 e2 e3 =
 
 -- ---- a commit
 
-pub commits : (m new : Machine) (r c n : ℕ) (rest : Option ItemId) → IsMachine m → HasFirst m r (Commit c) rest → new ≡ record m { state = new.state; choices = new.choices; stamp = new.stamp } → new.stamp ≡ m.stamp + 1 → plain_of new.state ≡ resting rest (plain_of m.state)
-    → choices_of m.atoms (base_in m) new.choices ≡ cut_from c (choices_of m.atoms (base_in m) m.choices) → new.choices ≡ take n m.choices → Steps m new answer.Went
-commits m new r c n rest is h same stamp e cut first =
+pub commits : (m new : Machine) (r c n : ℕ) (rest : Option ItemId) → IsMachine m → HasFirst m r (Commit c) rest → new ≡ record m { state = new.state; choices = new.choices; stamp = new.stamp } → new.stamp ≡ m.stamp + 1 → plain_of new.state ≡ resting rest (plain_of m.state) → going.Follows (held_of m.state) (held_of new.state)
+    → choices_of m.atoms (base_in m) (held_of m.state) new.choices ≡ cut_from c (choices_in m) → new.choices ≡ take n m.choices → Steps m new answer.Went
+commits m new r c n rest is h same stamp e f cut first =
     let p = plain_of m.state in
     let o = subst (OtherItems m.atoms p) (sym e) (other-rest m.atoms p rest h.rest) in
-    to_commit m new c n is same stamp (other-stands m.atoms p (plain_of new.state) is.stands o) cut first
+    to_commit m new c n is same stamp (other-stands m.atoms p (plain_of new.state) is.stands o) f cut first
     (item-step m r (Commit c) rest h
     ∙ ap (search.Commit c) (sym (other-to m new.state new.stamp r (items_at m.state.frames rest) is o stamp h.running (ap (λ (q : Plain). items_at q.frames q.items) e))))
 
@@ -99,19 +107,21 @@ module _ (m : Machine) (r : ℕ) (g : Ref) (rest : Option ItemId) (is : IsMachin
   may_again = record {
     stands = is.stands;
     goes_on = record { process = r; running = h.running; goal = g; rest = items_at m.state.frames rest; list = h.list };
+    safe = is.safe;
     choices = is.choices;
+    below = newest_below m is;
     left = omega (arith, ap length second-left);
   }
 
   -- the condition is tried, and a choice was kept
-  tries_at : (mid : Machine) (s1 s2 : State) (d : ℕ) → d ≡ m.stamp → IsKept m Second mid → plain_of s1 ≡ pushed (Commit d) (resting rest (plain_of mid.state)) → plain_of s2 ≡ pushed (Goal g (d + 1)) (plain_of s1) → Steps m (record mid { state = s2; stamp = d + 1 }) answer.Went
-  tries_at mid s1 s2 d ed k e1 e2 =
+  tries_at : (mid : Machine) (s1 s2 : State) (d : ℕ) → d ≡ m.stamp → IsKept m Second mid → plain_of s1 ≡ pushed (Commit d) (resting rest (plain_of mid.state)) → plain_of s2 ≡ pushed (Goal g (d + 1)) (plain_of s1) → going.Follows (held_of mid.state) (held_of s2) → Steps m (record mid { state = s2; stamp = d + 1 }) answer.Went
+  tries_at mid s1 s2 d ed k e1 e2 f =
       let p = plain_of m.state in
       let q = resting rest p in
       let o1 = other-rest m.atoms p rest h.rest in
       let o2 = other-push m.atoms p q (Commit d) is.stands o1 tt in
       let o3 = other-push m.atoms p (pushed (Commit d) q) (Goal g (d + 1)) is.stands o2 h.stands in
-      let e3 : plain_of s2 ≡ pushed (Goal g (d + 1)) (pushed (Commit d) (resting rest (plain_of m.state))) = e2 ∙ ap (pushed (Goal g (d + 1))) e1 ∙ ap (λ (x : Plain). pushed (Goal g (d + 1)) (pushed (Commit d) (resting rest x))) k.plain in
+      let e3 : plain_of s2 ≡ pushed (Goal g (d + 1)) (pushed (Commit d) (resting rest (plain_of m.state))) = e2 ∙ ap (pushed (Goal g (d + 1))) e1 ∙ ap (λ (x : Plain). pushed (Goal g (d + 1)) (pushed (Commit d) (resting rest x))) (ap (λ (y : Machine). plain_of y.state) k.same) in
       let o = subst (OtherItems m.atoms p) (sym e3) o3 in
       let items = Goal g (d + 1) ∷ Commit d ∷ items_at m.state.frames rest in
       let listed : items_at (plain_of s2).frames (plain_of s2).items ≡ items =
@@ -127,6 +137,7 @@ module _ (m : Machine) (r : ℕ) (g : Ref) (rest : Option ItemId) (is : IsMachin
         names = Grows-same mid.atoms;
         table = subst IsTable (sym atoms) is.program.table;
         stands = subst (λ (ns : List Name). PlainStands ns (plain_of s2)) (sym atoms) (other-stands m.atoms p (plain_of s2) is.stands o);
+        follows = f;
         stamp = ap (λ n. n + 1) ed ∙ ap (λ (y : Machine). y.stamp + 1) (sym k.same);
       })
       (again-step
@@ -136,18 +147,18 @@ module _ (m : Machine) (r : ℕ) (g : Ref) (rest : Option ItemId) (is : IsMachin
       ap (λ (ns : List Name). world_of ns (plain_of s2) (d + 1)) atoms
       ∙ other-to m s2 (d + 1) r items is o (ap (λ n. n + 1) ed) h.running listed)))
 
-  pub tries : (mid : Machine) (s1 s2 : State) → IsKept m Second mid → plain_of s1 ≡ pushed (Commit mid.stamp) (resting rest (plain_of mid.state)) → plain_of s2 ≡ pushed (Goal g (mid.stamp + 1)) (plain_of s1) → Steps m (record mid { state = s2; stamp = mid.stamp + 1 }) answer.Went
-  tries mid s1 s2 k e1 e2 = tries_at mid s1 s2 mid.stamp (ap (λ (y : Machine). y.stamp) k.same) k e1 e2
+  pub tries : (mid : Machine) (s1 s2 : State) → IsKept m Second mid → plain_of s1 ≡ pushed (Commit mid.stamp) (resting rest (plain_of mid.state)) → plain_of s2 ≡ pushed (Goal g (mid.stamp + 1)) (plain_of s1) → going.Follows (held_of mid.state) (held_of s2) → Steps m (record mid { state = s2; stamp = mid.stamp + 1 }) answer.Went
+  tries mid s1 s2 k e1 e2 f = tries_at mid s1 s2 mid.stamp (ap (λ (y : Machine). y.stamp) k.same) k e1 e2 f
 
   -- the items behind it are there
   pub rest_there : (mid : Machine) → IsKept m Second mid → IfSome rest (λ i. i.at < length mid.state.frames)
-  rest_there mid k = subst (λ (x : Plain). IfSome rest (λ i. i.at < length x.frames)) (sym k.plain) h.rest
+  rest_there mid k = subst (λ (x : Plain). IfSome rest (λ i. i.at < length x.frames)) (sym (ap (λ (y : Machine). plain_of y.state) k.same)) h.rest
 
 -- the process goes on waiting
 pub waits_again : (m : Machine) (s : State) (a : IsAgain (plain_of m.state)) → IsMachine m
-    → ((q : Proc) → slice_get m.state.procs a.process ≡ Some q → plain_of s ≡ left a.process q (Parked false) (plain_of m.state))
+    → ((q : Proc) → slice_get m.state.procs a.process ≡ Some q → plain_of s ≡ left a.process q (Parked false) (plain_of m.state)) → going.Follows (held_of m.state) (held_of s)
     → Goes m (record m { state = s; stamp = m.stamp + 1 }) × (untried_in m Second ≡ world_in (record m { state = s; stamp = m.stamp + 1 }) ∷ [])
-waits_again m s a is e =
+waits_again m s a is e f =
     let names = m.atoms in
     let p = plain_of m.state in
     let r = a.process in
@@ -160,7 +171,7 @@ waits_again m s a is e =
     let next : untried_in m Second ≡ record (parked t g) { running = None } ∷ [] =
     ap (λ o. elim o as (λ _. List World) [ None ↦ [] | Some k ↦ untried_by (base_in m) (world_in m) k (world.items_at (world_in m).processes k) Second ]) a.running
     ∙ ap (λ l. untried_by (base_in m) (world_in m) r l Second) items in (
-      record { same = refl; names = Grows-same names; table = is.program.table; stands = subst (PlainStands names) (sym here) (left-stands names p r q.0 (Parked false) is.stands q.1); stamp = refl },
+      record { same = refl; names = Grows-same names; table = is.program.table; stands = subst (PlainStands names) (sym here) (left-stands names p r q.0 (Parked false) is.stands q.1); follows = f; stamp = refl },
       next ∙ ap (λ v. v ∷ []) (sym (
           ap (λ (x : Plain). world_of names x (m.stamp + 1)) here
           ∙ left-world names p r (m.stamp + 1) q.0 (Parked false) a.running q.1
@@ -175,9 +186,9 @@ waits_again m s a is e =
 
 -- the machine goes on so
 pub goes_on_waiting : (m : Machine) (s : State) (r : ℕ) → Returns m Second → m.state.running ≡ Some r
-    → ((q : Proc) → slice_get m.state.procs r ≡ Some q → plain_of s ≡ left r q (Parked false) (plain_of m.state)) → Resumes (record m { waiting = Some Second }) (record m { state = s; stamp = m.stamp + 1 })
-goes_on_waiting m s r back run e =
+    → ((q : Proc) → slice_get m.state.procs r ≡ Some q → plain_of s ≡ left r q (Parked false) (plain_of m.state)) → going.Follows (held_of m.state) (held_of s) → Resumes (record m { waiting = Some Second }) (record m { state = s; stamp = m.stamp + 1 })
+goes_on_waiting m s r back run e f =
     let a = back.goes_on in
     let same : r ≡ a.process = (let z : Some r ≡ Some a.process = sym run ∙ a.running in cc) in
-    let w = waits_again m s a back.machine (subst (λ n. (q : Proc) → slice_get m.state.procs n ≡ Some q → plain_of s ≡ left n q (Parked false) (plain_of m.state)) same e) in
-    resumes m m (record m { state = s; stamp = m.stamp + 1 }) Second [] back (record { same = refl; plain = refl; fits = back.machine.choices; kept = refl }) w.0 w.1
+    let w = waits_again m s a back.machine (subst (λ n. (q : Proc) → slice_get m.state.procs n ≡ Some q → plain_of s ≡ left n q (Parked false) (plain_of m.state)) same e) f in
+    resumes m m (record m { state = s; stamp = m.stamp + 1 }) Second [] back (record { same = refl; fits = back.machine.choices; kept = refl }) w.0 w.1

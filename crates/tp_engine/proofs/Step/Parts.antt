@@ -22,23 +22,27 @@ use Rattle.tp_clauses.specs.Contents as kept
 use Rattle.tp_clauses.specs.Contents.{IsBase, base_of}
 use Rattle.tp_control.specs.declared.choices.Alt.{Alt}
 use Rattle.tp_control.specs.declared.choices.Choice.{Choice}
+use Rattle.tp_control.specs.declared.choices.Marks.{Marks}
 use Rattle.tp_engine.specs.declared.machine.Machine.{Machine}
 use Rattle.tp_state.specs.declared.state.State as code
 use Rattle.tp_engine.specs.declared.phase.Stepped.{Stepped}
 use Rattle.tp_engine.specs.declared.phase.Stepped.TheVariants as answer
 use Rattle.tp_store.specs.Contents.{seen}
-use Rattle.tp_state.specs.State.{plain_of}
+use Rattle.tp_state.specs.State.{plain_of, held_of}
+use Rattle.tp_state.specs.Going as going
+use Rattle.tp_state.specs.Going.{marks_of}
 use Rattle.tp_state.specs.Plain.{Plain, world_of}
 use Rattle.tp_state.specs.Stands.{PlainStands}
 use Rattle.tp_engine.specs.Program.{GoalFits}
-use Rattle.tp_engine.specs.Machine.{IsProgram, ChoiceFits, GoesOn, choice_of, open_at, waiting_of, IsMachine, Steps, Resumes, ErrorStands, base_in, world_in, state_in, choices_of, answer_by}
+use Rattle.tp_engine.specs.Machine.{IsProgram, ChoicesFit, waiting_of, IsMachine, Steps, Resumes, ErrorStands, base_in, world_in, state_in, choices_in, choices_of, answer_by}
 use Rattle.tp_engine.specs.Goes.{KeepsWorlds, IsKept, MayKeep, Goes, Returns, untried_in}
 use Rattle.tp_engine.proofs.Program.{base_fits}
-use Rattle.tp_engine.proofs.Worlds.Names.{base-later, choices-later, choice-later}
+use Rattle.tp_engine.proofs.Worlds.Names.{base-later}
+use Rattle.tp_engine.proofs.Choices.{stay_by_acts, choices_stay, fits_stay, choices_later, fits_later, choices_push, fits_push, choice_now, fits_take}
 
 -- the machine's state, where it didn't go back
-pub state_is : (m : Machine) → m.waiting ≡ None → state_in m ≡ record { world = world_in m; choices = choices_of m.atoms (base_in m) m.choices }
-state_is m e = ap (λ o. record { world = world_in m; choices = waiting_of (base_in m) (world_in m) m.stamp o ++ choices_of m.atoms (base_in m) m.choices }) e
+pub state_is : (m : Machine) → m.waiting ≡ None → state_in m ≡ record { world = world_in m; choices = choices_in m }
+state_is m e = ap (λ o. record { world = world_in m; choices = waiting_of (base_in m) (world_in m) m.stamp o ++ choices_in m }) e
 
 -- a machine that goes on from another by a step, with these choices
 pub record Follows (old new : Machine) (r : Stepped) : Type 0 where
@@ -49,10 +53,11 @@ pub record Follows (old new : Machine) (r : Stepped) : Type 0 where
   pub names : Grows old.atoms new.atoms
   pub table : IsTable new.atoms
   pub stands : PlainStands new.atoms (plain_of new.state)
-  pub choices : All (ChoiceFits old.atoms (base_in old)) new.choices
+  pub acts : going.Follows (held_of old.state) (held_of new.state)
+  pub choices : ChoicesFit old.atoms (base_in old) (held_of old.state) new.choices
   pub bound : new.stamp ≤ old.stamp + 1
   pub place : ErrorStands new r
-  pub step : (answer_by new r, record { world = world_in new; choices = choices_of old.atoms (base_in old) new.choices }) ≡ stepped (searched (base_in old)) (state_in old)
+  pub step : (answer_by new r, record { world = world_in new; choices = choices_of old.atoms (base_in old) (held_of old.state) new.choices }) ≡ stepped (searched (base_in old)) (state_in old)
 
 -- the base means the same under a longer table
 pub meaning : (old new : Machine) → IsProgram old → new.base.now ≡ old.base.now → Grows old.atoms new.atoms → base_in new ≡ base_in old
@@ -78,9 +83,12 @@ steps old new r f =
     let x = searched (base_in old) in
     let p = f.is.program in
     let same : base_in new ≡ base_in old = meaning old new p f.base f.names in
-    let later = choices-later old.atoms new.atoms f.names (base_in old) new.choices f.choices in
-    let here : state_in new ≡ record { world = world_in new; choices = choices_of old.atoms (base_in old) new.choices } =
-    state_is new f.waiting ∙ ap (λ b. record { world = world_in new; choices = choices_of new.atoms b new.choices }) same ∙ ap (λ cs. record { world = world_in new; choices = cs }) later in
+    let stay = stay_by_acts old.atoms (base_in old) (held_of old.state) (held_of new.state) new.choices f.acts f.choices.fits in
+    let fit = fits_stay old.atoms (base_in old) (held_of old.state) (held_of new.state) new.choices stay f.choices in
+    let later : choices_of new.atoms (base_in old) (held_of new.state) new.choices ≡ choices_of old.atoms (base_in old) (held_of old.state) new.choices =
+    choices_later old.atoms new.atoms f.names (base_in old) (held_of new.state) new.choices fit ∙ choices_stay old.atoms (base_in old) (held_of old.state) (held_of new.state) new.choices stay in
+    let here : state_in new ≡ record { world = world_in new; choices = choices_of old.atoms (base_in old) (held_of old.state) new.choices } =
+    state_is new f.waiting ∙ ap (λ b. record { world = world_in new; choices = choices_of new.atoms b (held_of new.state) new.choices }) same ∙ ap (λ cs. record { world = world_in new; choices = cs }) later in
     let e : (answer_by new r, state_in new) ≡ stepped x (state_in old) = ap (λ (s : State World). (answer_by new r, s)) here ∙ f.step in
     let fits = base_fits old p in
     let rises = step-rises (base_in old) (world_in old) fits f.is.worlds.world.valid in
@@ -89,7 +97,8 @@ steps old new r f =
         going = f.waiting;
         program = program-later old new p f.base f.goal f.names f.table;
         stands = f.stands;
-        choices = subst (λ b. All (ChoiceFits new.atoms b) new.choices) (sym same) (λ k d lt. choice-later old.atoms new.atoms f.names (base_in old) _ (f.choices k d lt));
+        safe = f.acts.safe f.is.safe;
+        choices = subst (λ b. ChoicesFit new.atoms b (held_of new.state) new.choices) (sym same) (fits_later old.atoms new.atoms f.names (base_in old) (held_of new.state) new.choices fit);
         worlds = subst (λ (g : ReadTerm). Holds (Stands g.vars) (state_in new)) (sym f.goal) (subst (Holds (Stands old.goal.now.vars)) (sym (ap (λ (q : machine.Stepped Term × State World). q.1) e)) (stepped-stands (base_in old) old.goal.now.vars (state_in old) fits f.is.worlds));
         stack = subst (λ b. HasStack (searched b) (state_in new)) (sym same) (subst (HasStack x) (sym (ap (λ (q : machine.Stepped Term × State World). q.1) e)) (stepped-stack x (state_in old) rises f.is.stack));
       };
@@ -112,11 +121,12 @@ to_one old new is g h = steps old new answer.Went (record {
   names = g.names;
   table = g.table;
   stands = g.stands;
-  choices = subst (λ (cs : Vec Choice Global). All (ChoiceFits old.atoms (base_in old)) cs.items) (sym (ap (λ (m : Machine). m.choices) g.same)) is.choices;
+  acts = g.follows;
+  choices = subst (ChoicesFit old.atoms (base_in old) (held_of old.state)) (sym (ap (λ (m : Machine). m.choices) g.same)) is.choices;
   bound = omega (arith, g.stamp);
   place = tt;
-  step = ap (λ (cs : Vec Choice Global). (Went, record { world = world_in new; choices = choices_of old.atoms (base_in old) cs.items })) (ap (λ (m : Machine). m.choices) g.same)
-      ∙ sym (ap (stepped (searched (base_in old))) (state_is old is.going) ∙ ap (λ s. stepped_by (searched (base_in old)) s (record { world = world_in old; choices = choices_of old.atoms (base_in old) old.choices })) h);
+  step = ap (λ (cs : List Choice). (Went, record { world = world_in new; choices = choices_of old.atoms (base_in old) (held_of old.state) cs })) (ap (λ (m : Machine). m.choices) g.same)
+      ∙ sym (ap (stepped (searched (base_in old))) (state_is old is.going) ∙ ap (λ s. stepped_by (searched (base_in old)) s (record { world = world_in old; choices = choices_in old })) h);
 })
 
 -- to a world after a choice was kept
@@ -129,12 +139,13 @@ to_branch old mid new next is k g h = steps old new answer.Went (record {
   names = subst (λ (ns : List Name). Grows ns new.atoms) (ap (λ (m : Machine). m.atoms) k.same) g.names;
   table = g.table;
   stands = g.stands;
-  choices = subst (λ (cs : Vec Choice Global). All (ChoiceFits old.atoms (base_in old)) cs.items) (sym (ap (λ (m : Machine). m.choices) g.same)) k.fits;
+  acts = subst (λ (s : code.State). going.Follows (held_of s) (held_of new.state)) (ap (λ (m : Machine). m.state) k.same) g.follows;
+  choices = subst (ChoicesFit old.atoms (base_in old) (held_of old.state)) (sym (ap (λ (m : Machine). m.choices) g.same)) k.fits;
   bound = omega (arith, g.stamp, ap (λ (m : Machine). m.stamp) k.same);
   place = tt;
-  step = ap (λ (cs : Vec Choice Global). (Went, record { world = world_in new; choices = choices_of old.atoms (base_in old) cs.items })) (ap (λ (m : Machine). m.choices) g.same)
+  step = ap (λ (cs : List Choice). (Went, record { world = world_in new; choices = choices_of old.atoms (base_in old) (held_of old.state) cs })) (ap (λ (m : Machine). m.choices) g.same)
       ∙ ap (λ cs. (Went, record { world = world_in new; choices = cs })) k.kept
-      ∙ sym (ap (stepped (searched (base_in old))) (state_is old is.going) ∙ ap (λ s. stepped_by (searched (base_in old)) s (record { world = world_in old; choices = choices_of old.atoms (base_in old) old.choices })) h);
+      ∙ sym (ap (stepped (searched (base_in old))) (state_is old is.going) ∙ ap (λ s. stepped_by (searched (base_in old)) s (record { world = world_in old; choices = choices_in old })) h);
 })
 
 -- a dead end, or the end
@@ -149,10 +160,10 @@ to_none m r a g is ea place h e = record {
 }
 
 -- a commit to a stamp, after the choices from it on were removed
-pub to_commit : (old new : Machine) (c n : ℕ) → IsMachine old → new ≡ record old { state = new.state; choices = new.choices; stamp = new.stamp } → new.stamp ≡ old.stamp + 1 → PlainStands old.atoms (plain_of new.state)
-    → choices_of old.atoms (base_in old) new.choices ≡ cut_from c (choices_of old.atoms (base_in old) old.choices) → new.choices ≡ take n old.choices
+pub to_commit : (old new : Machine) (c n : ℕ) → IsMachine old → new ≡ record old { state = new.state; choices = new.choices; stamp = new.stamp } → new.stamp ≡ old.stamp + 1 → PlainStands old.atoms (plain_of new.state) → going.Follows (held_of old.state) (held_of new.state)
+    → choices_of old.atoms (base_in old) (held_of old.state) new.choices ≡ cut_from c (choices_in old) → new.choices ≡ take n old.choices
     → step (base_in old) (world_in old) ≡ search.Commit c (world_of old.atoms (plain_of new.state) new.stamp) → Steps old new answer.Went
-to_commit old new c n is same stamp stands cut first h = steps old new answer.Went (record {
+to_commit old new c n is same stamp stands acts cut first h = steps old new answer.Went (record {
   is = is;
   waiting = ap (λ (m : Machine). m.waiting) same ∙ is.going;
   base = ap (λ (m : Machine). m.base.now) same;
@@ -160,21 +171,22 @@ to_commit old new c n is same stamp stands cut first h = steps old new answer.We
   names = subst (λ (ns : List Name). Grows old.atoms ns) (sym atoms) (Grows-same old.atoms);
   table = subst IsTable (sym atoms) is.program.table;
   stands = subst (λ (ns : List Name). PlainStands ns (plain_of new.state)) (sym atoms) stands;
-  choices = subst (All (ChoiceFits old.atoms (base_in old))) (sym first) (All-take (ChoiceFits old.atoms (base_in old)) n old.choices is.choices);
+  acts = acts;
+  choices = subst (ChoicesFit old.atoms (base_in old) (held_of old.state)) (sym first) (fits_take old.atoms (base_in old) (held_of old.state) n old.choices is.choices);
   bound = omega (arith, stamp);
   place = tt;
-  step = ap (λ (ns : List Name). (Went, record { world = world_of ns (plain_of new.state) new.stamp; choices = choices_of old.atoms (base_in old) new.choices })) atoms
+  step = ap (λ (ns : List Name). (Went, record { world = world_of ns (plain_of new.state) new.stamp; choices = choices_of old.atoms (base_in old) (held_of old.state) new.choices })) atoms
       ∙ ap (λ cs. (Went, record { world = world_of old.atoms (plain_of new.state) new.stamp; choices = cs })) cut
-      ∙ sym (ap (stepped (searched (base_in old))) (state_is old is.going) ∙ ap (λ s. stepped_by (searched (base_in old)) s (record { world = world_in old; choices = choices_of old.atoms (base_in old) old.choices })) h);
+      ∙ sym (ap (stepped (searched (base_in old))) (state_is old is.going) ∙ ap (λ s. stepped_by (searched (base_in old)) s (record { world = world_in old; choices = choices_in old })) h);
 })
   where
     atoms : new.atoms ≡ old.atoms
     atoms = ap (λ (m : Machine). m.atoms) same
 
 -- an error, after its term was built
-pub to_raise : (m new : Machine) (place : Ref) (e : Term) → IsMachine m → new ≡ record m { state = new.state } → PlainStands m.atoms (plain_of new.state) → world_of m.atoms (plain_of new.state) m.stamp ≡ world_in m
+pub to_raise : (m new : Machine) (place : Ref) (e : Term) → IsMachine m → new ≡ record m { state = new.state } → PlainStands m.atoms (plain_of new.state) → going.Follows (held_of m.state) (held_of new.state) → world_of m.atoms (plain_of new.state) m.stamp ≡ world_in m
     → seen m.atoms new.state.store place.at ≡ e → place.at < length new.state.store.cells → step (base_in m) (world_in m) ≡ search.Raise e → Steps m new (answer.Raised place)
-to_raise m new place e is same stands w shown within h = steps m new (answer.Raised place) (record {
+to_raise m new place e is same stands acts w shown within h = steps m new (answer.Raised place) (record {
   is = is;
   waiting = ap (λ (q : Machine). q.waiting) same ∙ is.going;
   base = ap (λ (q : Machine). q.base.now) same;
@@ -182,13 +194,14 @@ to_raise m new place e is same stands w shown within h = steps m new (answer.Rai
   names = subst (λ (ns : List Name). Grows m.atoms ns) (sym atoms) (Grows-same m.atoms);
   table = subst IsTable (sym atoms) is.program.table;
   stands = subst (λ (ns : List Name). PlainStands ns (plain_of new.state)) (sym atoms) stands;
-  choices = subst (λ (cs : Vec Choice Global). All (ChoiceFits m.atoms (base_in m)) cs.items) (sym (ap (λ (q : Machine). q.choices) same)) is.choices;
+  acts = acts;
+  choices = subst (ChoicesFit m.atoms (base_in m) (held_of m.state)) (sym (ap (λ (q : Machine). q.choices) same)) is.choices;
   bound = omega (arith, ap (λ (q : Machine). q.stamp) same);
   place = within;
-  step = ap (λ (q : Machine). (machine.Raised (seen q.atoms new.state.store place.at), record { world = world_of q.atoms (plain_of new.state) q.stamp; choices = choices_of m.atoms (base_in m) q.choices })) same
-      ∙ ap (λ t. (machine.Raised t, record { world = world_of m.atoms (plain_of new.state) m.stamp; choices = choices_of m.atoms (base_in m) m.choices })) shown
-      ∙ ap (λ v. (machine.Raised e, record { world = v; choices = choices_of m.atoms (base_in m) m.choices })) w
-      ∙ sym (ap (stepped (searched (base_in m))) (state_is m is.going) ∙ ap (λ s. stepped_by (searched (base_in m)) s (record { world = world_in m; choices = choices_of m.atoms (base_in m) m.choices })) h);
+  step = ap (λ (q : Machine). (machine.Raised (seen q.atoms new.state.store place.at), record { world = world_of q.atoms (plain_of new.state) q.stamp; choices = choices_of m.atoms (base_in m) (held_of m.state) q.choices })) same
+      ∙ ap (λ t. (machine.Raised t, record { world = world_of m.atoms (plain_of new.state) m.stamp; choices = choices_in m })) shown
+      ∙ ap (λ v. (machine.Raised e, record { world = v; choices = choices_in m })) w
+      ∙ sym (ap (stepped (searched (base_in m))) (state_is m is.going) ∙ ap (λ s. stepped_by (searched (base_in m)) s (record { world = world_in m; choices = choices_in m })) h);
 })
   where
     atoms : new.atoms ≡ m.atoms
@@ -200,17 +213,21 @@ resumes m mid new next more back k g e =
     let is = back.machine in
     let x = searched (base_in m) in
     let w = world_in m in
-    let cs = choices_of m.atoms (base_in m) m.choices in
+    let cs = choices_in m in
     let eb : new.base.now ≡ m.base.now = ap (λ (q : Machine). q.base.now) g.same ∙ ap (λ (q : Machine). q.base.now) k.same in
     let eg : new.goal.now ≡ m.goal.now = ap (λ (q : Machine). q.goal.now) g.same ∙ ap (λ (q : Machine). q.goal.now) k.same in
     let grows : Grows m.atoms new.atoms = subst (λ (ns : List Name). Grows ns new.atoms) (ap (λ (q : Machine). q.atoms) k.same) g.names in
     let waiting : new.waiting ≡ None = ap (λ (q : Machine). q.waiting) g.same ∙ ap (λ (q : Machine). q.waiting) k.same ∙ is.going in
     let same : base_in new ≡ base_in m = meaning m new is.program eb grows in
-    let fits : All (ChoiceFits m.atoms (base_in m)) new.choices = subst (λ (ds : Vec Choice Global). All (ChoiceFits m.atoms (base_in m)) ds.items) (sym (ap (λ (q : Machine). q.choices) g.same)) k.fits in
-    let later = choices-later m.atoms new.atoms grows (base_in m) new.choices fits in
-    let kept : choices_of m.atoms (base_in m) new.choices ≡ with_choice m.stamp w more cs = ap (λ (ds : Vec Choice Global). choices_of m.atoms (base_in m) ds.items) (ap (λ (q : Machine). q.choices) g.same) ∙ k.kept in
+    let acts : going.Follows (held_of m.state) (held_of new.state) = subst (λ (s : code.State). going.Follows (held_of s) (held_of new.state)) (ap (λ (q : Machine). q.state) k.same) g.follows in
+    let fits : ChoicesFit m.atoms (base_in m) (held_of m.state) new.choices = subst (ChoicesFit m.atoms (base_in m) (held_of m.state)) (sym (ap (λ (q : Machine). q.choices) g.same)) k.fits in
+    let stay = stay_by_acts m.atoms (base_in m) (held_of m.state) (held_of new.state) new.choices acts fits.fits in
+    let fit = fits_stay m.atoms (base_in m) (held_of m.state) (held_of new.state) new.choices stay fits in
+    let later : choices_of new.atoms (base_in m) (held_of new.state) new.choices ≡ choices_of m.atoms (base_in m) (held_of m.state) new.choices =
+    choices_later m.atoms new.atoms grows (base_in m) (held_of new.state) new.choices fit ∙ choices_stay m.atoms (base_in m) (held_of m.state) (held_of new.state) new.choices stay in
+    let kept : choices_of m.atoms (base_in m) (held_of m.state) new.choices ≡ with_choice m.stamp w more cs = ap (choices_of m.atoms (base_in m) (held_of m.state)) (ap (λ (q : Machine). q.choices) g.same) ∙ k.kept in
     let here : state_in new ≡ record { world = world_in new; choices = with_choice m.stamp w more cs } =
-    state_is new waiting ∙ ap (λ b. record { world = world_in new; choices = choices_of new.atoms b new.choices }) same ∙ ap (λ ds. record { world = world_in new; choices = ds }) (later ∙ kept) in
+    state_is new waiting ∙ ap (λ b. record { world = world_in new; choices = choices_of new.atoms b (held_of new.state) new.choices }) same ∙ ap (λ ds. record { world = world_in new; choices = ds }) (later ∙ kept) in
     let old : state_in (record m { waiting = Some next }) ≡ record { world = w; choices = record { stamp = m.stamp; world = w; untried = world_in new ∷ more } ∷ cs } =
     ap (λ ws. record { world = w; choices = record { stamp = m.stamp; world = w; untried = ws } ∷ cs }) e in
     let resumed_is : state_in new ≡ machine.resumed (state_in (record m { waiting = Some next })) = here ∙ sym (ap machine.resumed old) in
@@ -224,7 +241,8 @@ resumes m mid new next more back k g e =
         going = waiting;
         program = program-later m new is.program eb eg grows g.table;
         stands = g.stands;
-        choices = subst (λ b. All (ChoiceFits new.atoms b) new.choices) (sym same) (λ k' d lt. choice-later m.atoms new.atoms grows (base_in m) _ (fits k' d lt));
+        safe = acts.safe is.safe;
+        choices = subst (λ b. ChoicesFit new.atoms b (held_of new.state) new.choices) (sym same) (fits_later m.atoms new.atoms grows (base_in m) (held_of new.state) new.choices fit);
         worlds = subst (λ (q : ReadTerm). Holds (Stands q.vars) (state_in new)) (sym eg) (subst (Holds (Stands m.goal.now.vars)) (sym here) (record {
           world = these.0;
           choices = with-hold m.goal.now.vars m.stamp w more cs is.worlds.world these.1 rest.choices;
@@ -244,19 +262,16 @@ resumes m mid new next more back k g e =
 
 -- ---- a choice that is kept
 
-pub keeps : (m : Machine) (next : Alt) (s : code.State) (new : Vec Choice Global) → MayKeep m next → plain_of s ≡ plain_of m.state → new.items ≡ m.choices ++ record { stamp = m.stamp; state = s; next = next } ∷ [] → IsKept m next (record m { choices = new })
-keeps m next s new may e items =
-    let c : Choice = record { stamp = m.stamp; state = s; next = next } in
-    let P = ChoiceFits m.atoms (base_in m) in
-    let fits : ChoiceFits m.atoms (base_in m) c = record { stands = subst (PlainStands m.atoms) (sym e) may.stands; next = subst (λ (p : Plain). GoesOn m.atoms (base_in m) p next) (sym e) may.goes_on } in
-    let open_is : choice_of m.atoms (base_in m) c ≡ open_at (base_in m) (world_in m) m.stamp next = ap (λ (p : Plain). open_at (base_in m) (world_of m.atoms p m.stamp) m.stamp next) e in
+pub keeps : (m : Machine) (next : Alt) (new : List Choice) (marks : Marks) → MayKeep m next → marks ≡ marks_of (held_of m.state) → new ≡ m.choices ++ record { stamp = m.stamp; marks = marks; next = next } ∷ [] → IsKept m next (record m { choices = new })
+keeps m next new marks may e items =
+    let c : Choice = record { stamp = m.stamp; marks = marks; next = next } in
+    let h = held_of m.state in
     record {
       same = refl;
-      plain = refl;
-      fits = subst (All P) (sym items) (All-push P m.choices c may.choices fits);
-      kept = ap (choices_of m.atoms (base_in m)) items ∙ ap (map (choice_of m.atoms (base_in m))) (reverse-append m.choices (c ∷ []))
-          ∙ ap (λ k. k ∷ choices_of m.atoms (base_in m) m.choices) open_is
-          ∙ sym (with_left m.stamp (world_in m) (untried_in m next) (choices_of m.atoms (base_in m) m.choices) may.left);
+      fits = subst (ChoicesFit m.atoms (base_in m) h) (sym items) (fits_push m.atoms (base_in m) h m.choices c e may.stands may.goes_on may.choices);
+      kept = ap (choices_of m.atoms (base_in m) h) items ∙ choices_push m.atoms (base_in m) h m.choices c
+          ∙ ap (λ k. k ∷ choices_in m) (choice_now m.atoms (base_in m) h c e)
+          ∙ sym (with_left m.stamp (world_in m) (untried_in m next) (choices_in m) may.left);
     }
   where
     with_left : (d : ℕ) (w : World) (ws : List World) (cs : List (machine.Choice World)) → 0 < length ws → with_choice d w ws cs ≡ record { stamp = d; world = w; untried = ws } ∷ cs

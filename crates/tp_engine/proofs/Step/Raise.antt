@@ -24,7 +24,11 @@ use Rattle.tp_engine.specs.declared.machine.Machine.{Machine}
 use Rattle.tp_state.specs.declared.state.State.{State}
 use Rattle.tp_engine.specs.declared.phase.Stepped.TheVariants as answer
 use Rattle.tp_engine.specs.declared.task.Task.{Task}
-use Rattle.tp_state.specs.State.{plain_of}
+use Rattle.std.proofs.lemmas.List.{append-nil}
+use Rattle.tp_state.specs.Acts.{with_store}
+use Rattle.tp_state.specs.Going as going
+use Rattle.tp_state.specs.State.{plain_of, held_of}
+use Rattle.tp_state.proofs.GoingBack.Bindings.{store-follows}
 use Rattle.tp_state.specs.Plain.{Plain, items_of, process_of, with_running, world_of}
 use Rattle.tp_state.specs.Stands.{PlainStands}
 use Rattle.tp_engine.specs.Built.{Built}
@@ -70,9 +74,9 @@ module _ (m : Machine) (t : Task) (is : IsMachine m) (h : Meets m t) where
   closed (cause.Number value) u n = refl
   closed (cause.Unknown name count) u n = refl
 
-  pub raises : (s : State) (place : Ref) (why : Cause) (q : Proc) → IsCause m t why → slice_get m.state.procs t.process ≡ Some q → plain_of s ≡ record (plain_of m.state) { store = s.store }
+  pub raises : (s : State) (place : Ref) (why : Cause) (q : Proc) → IsCause m t why → slice_get m.state.procs t.process ≡ Some q → plain_of s ≡ record (plain_of m.state) { store = s.store } → held_of s ≡ record { plain = with_store s.store (plain_of m.state); log = m.state.log; rooms = (held_of m.state).rooms }
       → Built m.atoms m.state.store s.store place.at (error (kind_term m.atoms why) (name_at m.atoms q.name.at)) → Steps m (record m { state = s }) (answer.Raised place)
-  raises s place why q c e same b =
+  raises s place why q c e same held b =
       let names = m.atoms in
       let u = b.keeps.bindings names in
       let name = name_at names q.name.at in
@@ -83,8 +87,16 @@ module _ (m : Machine) (t : Task) (is : IsMachine m) (h : Meets m t) where
         longer = longer;
         terms = λ at lt. ap (λ v. apply v (shows names s.store.cells at)) u ∙ ap (apply (subst_of names m.state.store)) (b.keeps.terms names at lt);
       } in
+      let f : going.Follows (held_of m.state) (held_of s) = subst (going.Follows (held_of m.state)) (sym held) (store-follows (held_of m.state) s.store m.state.log (record {
+        more_cells = b.adds.more;
+        more = [];
+        cells = b.adds.cells;
+        pairs = b.adds.pairs;
+        vars = omega (arith, b.adds.vars);
+        log = sym (append-nil m.state.log);
+      })) in
       to_raise m (record m { state = s }) place (error (kind_term names why) name) is refl
-      (subst (PlainStands names) (sym same) (store-stands names (λ x. x) (plain_of m.state) s.store is.stands other))
+      (subst (PlainStands names) (sym same) (store-stands names (λ x. x) (plain_of m.state) s.store is.stands other)) f
       (ap (λ (x : Plain). world_of names x m.stamp) same ∙ same-world names (plain_of m.state) s.store m.stamp is.stands other u b.adds.vars)
       (ap (apply (subst_of names s.store)) b.shown ∙ closed why (subst_of names s.store) name)
       (omega (arith, b.last))
@@ -93,10 +105,10 @@ module _ (m : Machine) (t : Task) (is : IsMachine m) (h : Meets m t) where
   -- with the name of the running process, as it was looked up
   pub raises_with : (s : State) (place : Ref) (why : Cause) (process : AtomId) → IsCause m t why → ((q : Proc) → slice_get m.state.procs t.process ≡ Some q → process ≡ q.name)
       → ((names : List Name) → IsTable names → AreNamed (length names) m.state.store.cells → CauseStands names why → process.at < length names → Built names m.state.store s.store place.at (error (kind_term names why) (name_at names process.at)))
-      → plain_of s ≡ record (plain_of m.state) { store = s.store } → Steps m (record m { state = s }) (answer.Raised place)
-  raises_with s place why process c named built same =
+      → plain_of s ≡ record (plain_of m.state) { store = s.store } → held_of s ≡ record { plain = with_store s.store (plain_of m.state); log = m.state.log; rooms = (held_of m.state).rooms } → Steps m (record m { state = s }) (answer.Raised place)
+  raises_with s place why process c named built same held =
       let q = there t.process m.state.procs (process_there m t.process h.standing h.running) in
       let e : process ≡ q.0.name = named q.0 q.1 in
-      raises s place why q.0 c q.1 same
+      raises s place why q.0 c q.1 same held
       (subst (λ (a : AtomId). Built m.atoms m.state.store s.store place.at (error (kind_term m.atoms why) (name_at m.atoms a.at))) e
       (built m.atoms is.program.table is.stands.atoms (cause_stands why c) (subst (λ (a : AtomId). a.at < length m.atoms) (sym e) (name_stands q.0 q.1))))

@@ -27,10 +27,12 @@ use Rattle.tp_meaning.specs.Machine as machine
 use Rattle.tp_engine.specs.declared.machine.Machine.{Machine}
 use Rattle.tp_state.specs.declared.state.State.{State}
 use Rattle.tp_engine.specs.declared.phase.Stepped.TheVariants as answer
-use Rattle.tp_state.specs.State.{plain_of}
+use Rattle.tp_state.specs.Going as going
+use Rattle.tp_state.specs.State.{plain_of, held_of}
 use Rattle.tp_state.specs.Plain.{Plain, items_of, process_of, with_running, slot_of, world_of}
 use Rattle.tp_state.specs.Stands.{PlainStands}
-use Rattle.tp_state.specs.Acts.{IsNextTime, ran, noted, begun, opened, is_marked, is_live, is_late}
+use Rattle.tp_procs.specs.Processes.{is_marked, is_live}
+use Rattle.tp_state.specs.Acts.{IsNextTime, ran, noted, begun, opened, is_late}
 use Rattle.tp_engine.specs.Machine.{Steps, base_in, world_in}
 use Rattle.tp_engine.specs.Meets.{IsIdle, IsUnmarked, TakesEntry}
 use Rattle.tp_engine.proofs.Worlds.Procs.{ran-stands, ran-world, noted-stands, noted-world, begun-stands, begun-world}
@@ -112,13 +114,13 @@ module _ (m : Machine) (h : IsIdle m) where
   marked_there p e = (position-Some is_marked m.state.procs p (record { name = record { at = 0 }; end = Inf; started = true; status = Ended; items = None }) e).0
 
   -- a marked process runs
-  pub runs_marked : (s : State) (p : ℕ) → position is_marked m.state.procs ≡ Some p → ((q : Proc) → slice_get m.state.procs p ≡ Some q → plain_of s ≡ ran p q (plain_of m.state)) → Steps m (record m { state = s; stamp = m.stamp + 1 }) answer.Went
-  runs_marked s p e f =
+  pub runs_marked : (s : State) (p : ℕ) → position is_marked m.state.procs ≡ Some p → ((q : Proc) → slice_get m.state.procs p ≡ Some q → plain_of s ≡ ran p q (plain_of m.state)) → going.Follows (held_of m.state) (held_of s) → Steps m (record m { state = s; stamp = m.stamp + 1 }) answer.Went
+  runs_marked s p e f g =
       let q = there p m.state.procs (marked_there p e) in
       let here = f q.0 q.1 in
       let is = h.machine in
       to_one m (record m { state = s; stamp = m.stamp + 1 }) is
-      (record { same = refl; names = Grows-same m.atoms; table = is.program.table; stands = subst (PlainStands m.atoms) (sym here) (ran-stands m.atoms (plain_of m.state) p q.0 is.stands q.1); stamp = refl })
+      (record { same = refl; names = Grows-same m.atoms; table = is.program.table; stands = subst (PlainStands m.atoms) (sym here) (ran-stands m.atoms (plain_of m.state) p q.0 is.stands q.1); follows = g; stamp = refl })
       (chooses ∙ ap (λ o. elim o as (λ _. Gives) [ None ↦ by_calendar (world_in m) (world_in m).calendar | Some p ↦ one (scheduler.with_running p (stamped (world_in m))) ]) e
       ∙ ap one (sym (ap (λ (x : Plain). world_of m.atoms x (m.stamp + 1)) here ∙ ran-world m.atoms (plain_of m.state) p (m.stamp + 1) q.0 h.idle q.1)))
 
@@ -196,9 +198,9 @@ module _ (m : Machine) (h : TakesEntry m) where
 
   takes_at : (s1 s2 s3 : State) → plain_of s1 ≡ record (plain_of m.state) { clock = h.entry.time; slots = h.more }
       → ((q : Proc) → slice_get s1.procs h.entry.pid ≡ Some q → plain_of s2 ≡ ran h.entry.pid q (plain_of s1))
-      → ((q : Proc) → slice_get s2.procs h.entry.pid ≡ Some q → plain_of s3 ≡ opened h.entry.pid q (plain_of s2))
+      → ((q : Proc) → slice_get s2.procs h.entry.pid ≡ Some q → plain_of s3 ≡ opened h.entry.pid q (plain_of s2)) → going.Follows (held_of m.state) (held_of s3)
       → Steps m (record m { state = s3; stamp = m.stamp + 1 }) answer.Went
-  takes_at s1 s2 s3 e1 f2 f3 =
+  takes_at s1 s2 s3 e1 f2 f3 g =
       let pid = h.entry.pid in
       let is = h.unmarked.idle.machine in
       let names = m.atoms in
@@ -213,7 +215,7 @@ module _ (m : Machine) (h : TakesEntry m) where
       let opens = opens_to names (ran pid q taken) pid (m.stamp + 1) y st2 refl (set-there m.state.procs pid y (there_is)) (omega (arith, there_is, length-set m.state.procs pid y)) in
       let ran_is : world_of names (ran pid q taken) (m.stamp + 1) ≡ scheduler.with_running pid (record (stamped (world_in m)) { clock = h.entry.time; calendar = map slot_of h.more }) = ran-world names taken pid (m.stamp + 1) q h.unmarked.idle.idle found.1 in
       to_one m (record m { state = s3; stamp = m.stamp + 1 }) is
-      (record { same = refl; names = Grows-same names; table = is.program.table; stands = subst (PlainStands names) (sym e3) opens.0; stamp = refl })
+      (record { same = refl; names = Grows-same names; table = is.program.table; stands = subst (PlainStands names) (sym e3) opens.0; follows = g; stamp = refl })
       (by_entries m h.unmarked ∙ ap (λ xs. by_calendar (world_in m) (map slot_of xs)) h.slots
       ∙ ap (λ b. if b then Dead Late else one (scheduler.entered (world_in m) (slot_of h.entry) (map slot_of h.more))) (late-is m h.unmarked h.entry.time ∙ h.timely)
       ∙ ap (λ o. one (with_start pid o (scheduler.with_running pid (record (stamped (world_in m)) { clock = h.entry.time; calendar = map slot_of h.more }))))
@@ -235,9 +237,10 @@ module _ (m : Machine) (h : TakesEntry m) where
 
   pub takes : (s1 s2 s3 : State) (pid' : ℕ) → pid' ≡ h.entry.pid → plain_of s1 ≡ record (plain_of m.state) { clock = h.entry.time; slots = h.more }
       → ((q : Proc) → slice_get s1.procs pid' ≡ Some q → plain_of s2 ≡ ran pid' q (plain_of s1))
-      → ((q : Proc) → slice_get s2.procs pid' ≡ Some q → plain_of s3 ≡ opened pid' q (plain_of s2))
+      → ((q : Proc) → slice_get s2.procs pid' ≡ Some q → plain_of s3 ≡ opened pid' q (plain_of s2)) → going.Follows (held_of m.state) (held_of s3)
       → Steps m (record m { state = s3; stamp = m.stamp + 1 }) answer.Went
-  takes s1 s2 s3 pid' at e1 g2 g3 =
+  takes s1 s2 s3 pid' at e1 g2 g3 f =
       takes_at s1 s2 s3 e1
       (subst (λ n. (q : Proc) → slice_get s1.procs n ≡ Some q → plain_of s2 ≡ ran n q (plain_of s1)) at g2)
       (subst (λ n. (q : Proc) → slice_get s2.procs n ≡ Some q → plain_of s3 ≡ opened n q (plain_of s2)) at g3)
+      f

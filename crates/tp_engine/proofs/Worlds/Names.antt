@@ -33,14 +33,15 @@ use Rattle.tp_state.specs.Plain.{Plain, item_of, items_of, process_of, with_runn
 use Rattle.tp_terms.specs.Events.{KindStands, EventStands}
 use Rattle.tp_state.specs.Stands.{ProcStands, PlainStands}
 use Rattle.tp_state.specs.State.{plain_of}
-use Rattle.tp_engine.specs.Machine.{GoesOn, ChoiceFits, open_at, choice_of, choices_of}
+use Rattle.tp_engine.specs.Machine.{GoesOn}
 
 -- a map by two functions that agree on each element
 map-each : {A B : Type 0} (f g : A → B) → ((x : A) → f x ≡ g x) → (xs : List A) → map f xs ≡ map g xs
 map-each f g h [] = refl
 map-each f g h (x ∷ xs) = ap (λ b. b ∷ map f xs) (h x) ∙ ap (λ bs. g x ∷ bs) (map-each f g h xs)
 
-all-reverse : {A : Type 0} (P : A → Type 0) (xs : List A) → AllByRecursion P xs → AllByRecursion P (reverse xs)
+-- all of a list, from behind
+pub all-reverse : {A : Type 0} (P : A → Type 0) (xs : List A) → AllByRecursion P xs → AllByRecursion P (reverse xs)
 all-reverse P [] h = tt
 all-reverse P (x ∷ xs) h = subst (AllByRecursion P) (sym (reverse-append (x ∷ []) xs)) (all-append P (reverse xs) (x ∷ []) (all-reverse P xs h.1) (h.0, tt))
 
@@ -173,16 +174,4 @@ goes_on-later old new grows base p (alt.Clause place) s h = record {
   few = h.few;
 }
 goes_on-later old new grows base p alt.Second s h = h
-
--- a choice still fits
-pub choice-later : (old new : List Name) → Grows old new → (base : Base) (c : Choice) → ChoiceFits old base c → ChoiceFits new base c
-choice-later old new grows base c h = record {
-  stands = stands-later old new grows (plain_of c.state) h.stands;
-  next = goes_on-later old new grows base (plain_of c.state) c.next h.stands h.next;
-}
-
--- choices that fit are the same under the longer table
-pub choices-later : (old new : List Name) → Grows old new → (base : Base) (cs : List Choice) → All (ChoiceFits old base) cs → choices_of new base cs ≡ choices_of old base cs
-choices-later old new grows base cs h =
-    map-same (choice_of new base) (choice_of old base) (ChoiceFits old base) (λ c k. ap (λ w. open_at base w c.stamp c.next) (world-later old new grows (plain_of c.state) k.stands c.stamp)) (reverse cs)
-    (all-reverse (ChoiceFits old base) cs (recursion_from_All (ChoiceFits old base) cs h))
+goes_on-later old new grows base p (alt.Message place) s h = absurd h

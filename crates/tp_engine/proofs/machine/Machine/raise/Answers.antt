@@ -8,4 +8,4 @@ name_of-process-requires c = process_there c.args.self.now c.args.task.process c
 
 pub returns-clause-done : goal.returns-clause-done
 returns-clause-done c =
-    raises_with c.args.self.now c.args.task c.requires.machine c.requires.meets (record c.args.self.now.state { store = c.raised.new.store }) c.in_ok-place.place c.args.cause c.name_of-process.result c.requires.cause c.name_of-process.ensures c.in_ok-place.ensures refl
+    raises_with c.args.self.now c.args.task c.requires.machine c.requires.meets (record c.args.self.now.state { store = c.raised.new.store }) c.in_ok-place.place c.args.cause c.name_of-process.result c.requires.cause c.name_of-process.ensures c.in_ok-place.ensures refl refl

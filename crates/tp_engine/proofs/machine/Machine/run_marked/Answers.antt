@@ -4,5 +4,5 @@ use Rattle.tp_engine.proofs.machine.Machine.run_marked.Goals as goal
 pub run-requires : goal.run-requires
 run-requires c = marked_there c.args.self.now c.requires.idle c.args.process c.requires.first
 
-pub returns : goal.returns
-returns c = runs_marked c.args.self.now c.requires.idle c.run.new.self c.args.process c.requires.first c.run.ensures
+pub returns-clause-done : goal.returns-clause-done
+returns-clause-done c = runs_marked c.args.self.now c.requires.idle c.run.new.self c.args.process c.requires.first c.in_ok-run.ensures.plain c.in_ok-run.ensures.follows
