@@ -3,13 +3,12 @@ use Rattle.std.proofs.Common.{◌≡◌, ℕ, ◌<◌, ◌≤◌, Bool, true, fa
 use Rattle.std.specs.List.{list_any, list_all}
 use Rattle.std.specs.Char.{is_digit, is_ascii_alphabetic, is_ascii_alphanumeric, is_ascii_uppercase}
 use Rattle.std.proofs.lemmas.Bool.{eqb-true, ltb-true, and_parts, cases_lt, agree_below_at}
-use Rattle.unicode_ident.specs.Ident.{is_xid_start, is_xid_continue}
-use Rattle.unicode_ident.proofs.IdentLemmas.{is_xid_start-ascii, is_xid_continue-ascii}
 use Rattle.tp_lex.specs.Characters.{percent, slash, star, quote, double_quote, is_layout, is_graphic, graphic_characters, is_name_start, is_variable_start, is_in_class, after_run}
 use Rattle.tp_lex.specs.declared.chars.Class.{Class}
 use Rattle.tp_lex.specs.declared.chars.Class.TheVariants.{Continuing, Graphic}
 use Rattle.tp_lex.specs.Integers.{base_of}
 use Rattle.tp_lex.specs.Layout.{after_gap}
+use Rattle.tp_lex.proofs.CharacterLemmas.{is_name_start-ascii, continuing-ascii}
 
 -- ---- facts of the characters of a list
 
@@ -39,7 +38,7 @@ begins_calm [] = false
 begins_calm (c ∷ cs) = is_calm c
 
 pub record IsCalm (c : ℕ) : Type 0 where
-  pub continuing : is_xid_continue c ≡ false
+  pub continuing : is_in_class Continuing c ≡ false
   pub graphic : is_graphic c ≡ false
   pub digit : is_digit c 10 ≡ false
   pub marks : (c == quote) ≡ false
@@ -48,7 +47,7 @@ pub record IsCalm (c : ℕ) : Type 0 where
 
 calm_by : (c : ℕ) → nat_lt c 128 ≡ true → (is_ascii_alphanumeric c || (c == 95)) ≡ false → is_graphic c ≡ false → is_digit c 10 ≡ false → (c == quote) ≡ false → base_of c ≡ None → (c == star) ≡ false → IsCalm c
 calm_by c low other g d q b s = record {
-  continuing = is_xid_continue-ascii c (ltb-true c 128 low) ∙ other;
+  continuing = continuing-ascii c (ltb-true c 128 low) ∙ other;
   graphic = g;
   digit = d;
   marks = q;
@@ -125,10 +124,9 @@ name_start_test c = is_ascii_alphabetic c && begins_gap c
 pub name_start_no_gap : (c : ℕ) → is_name_start c ≡ true → begins_gap c ≡ false
 unfolding name_start_test
 name_start_no_gap c e =
-    let starts : is_xid_start c ≡ true = (and_parts (is_xid_start c) (not (is_ascii_uppercase c)) e).0 in
     elim (cases_lt c 128) [
       | inl low ↦
-          let letter : is_ascii_alphabetic c ≡ true = sym (is_xid_start-ascii c low) ∙ starts in
+          let letter : is_ascii_alphabetic c ≡ true = (and_parts (is_ascii_alphabetic c) (not (is_ascii_uppercase c)) (sym (is_name_start-ascii c low) ∙ e)).0 in
           let none : (is_ascii_alphabetic c && begins_gap c) ≡ false = agree_below_at name_start_test (λ c. false) 128 c refl low in
           ap (λ b. b && begins_gap c) (sym letter) ∙ none
       | inr high ↦ high_no_gap c high
@@ -148,7 +146,7 @@ pub record IsGraphic (c : ℕ) : Type 0 where
 
 -- a character of ASCII that is no letter begins no name
 pub no_name_start : (c : ℕ) → nat_lt c 128 ≡ true → is_ascii_alphabetic c ≡ false → is_name_start c ≡ false
-no_name_start c low other = let e = is_xid_start-ascii c (ltb-true c 128 low) ∙ other in ap (λ b. b && not (is_ascii_uppercase c)) e
+no_name_start c low other = is_name_start-ascii c (ltb-true c 128 low) ∙ ap (λ b. b && not (is_ascii_uppercase c)) other
 
 graphic_by : (c : ℕ) → nat_lt c 128 ≡ true → is_ascii_alphabetic c ≡ false → is_variable_start c ≡ false → is_digit c 10 ≡ false → (c == quote) ≡ false → (c == double_quote) ≡ false → is_layout c ≡ false → (c == percent) ≡ false → IsGraphic c
 graphic_by c low other v d q w l p = record {

@@ -8,7 +8,8 @@ use Rattle.tp_lex.specs.declared.token.TokenKind.TheVariants as kind
 use Rattle.tp_lex.specs.Tokens.{tokens}
 use Rattle.tp_lex.proofs.PlaceLemmas.{scalars-front}
 use Rattle.tp_parse.specs.Table.{Table, start_table}
-use Rattle.tp_write.specs.Names.{is_letter_digit, is_solo, is_graphic_name, quoted, name_text}
+use Rattle.tp_lex.specs.Characters.{is_letter_digit}
+use Rattle.tp_write.specs.Names.{is_solo, is_graphic_name, quoted, name_text}
 use Rattle.tp_write.specs.Text.{tail_text, Form, Listed, Braces, Infix, Prefix, Plain, form_of, priority, atom_text, Written, unary_text, binary_text, written, all_written, text}
 use Rattle.tp_write.specs.Back.{IsReadable, AreReadable, NamesCompound, IsInteger64, written_clause}
 use Rattle.tp_write.proofs.WrittenPieces.{Stand, First, Directly, Spaced, Piece, Parts, gap, spelled, laid, places_in, mark, word, brackets_part, braces_part, variable, variable_name, number, minus_sign, integer_part, atom_by, atom_part, unary_parts, binary_parts, behind_atom, atom_parts, parts, all_parts, end, clause_pieces}

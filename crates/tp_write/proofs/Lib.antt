@@ -1,7 +1,6 @@
 pub mod Examples
 pub mod TimesLemmas
 pub mod UnderLemmas
-pub mod ProgressLemmas
 pub mod NameLemmas
 pub mod FormLemmas
 pub mod PieceLemmas

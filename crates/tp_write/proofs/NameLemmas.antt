@@ -7,25 +7,15 @@ use Rattle.std.specs.Fmt.{digits}
 use Rattle.tp_terms.proofs.TextLemmas.{names_eq-true}
 use Rattle.tp_write.specs.Names.{code_escape}
 use Rattle.tp_write.specs.Escaping.{escape_start, is_control}
-use Rattle.std.proofs.lemmas.Str.{IsUtf8-from_is_utf8, chars_past_char, chars-append, chars-nil, IsUtf8-encode}
-use Rattle.std.proofs.Common.{encode_utf8, append-nil}
-use Rattle.std.specs.Char.{IsScalar}
+use Rattle.std.proofs.lemmas.Str.{IsUtf8-from_is_utf8}
 use Rattle.std.specs.Str.{IsUtf8, is_utf8, chars}
 use Rattle.tp_terms.proofs.TextLemmas.{names_eq-apart, same_bytes}
 use Rattle.tp_terms.specs.Term.{Name, names_eq}
-use Rattle.tp_write.specs.Progress.{Progress, PrefixAdded}
-use Rattle.tp_write.proofs.ProgressLemmas.{begins, goes, ends, stops_within}
+use Rattle.tp_terms.specs.Added.{Progress, AddsPrefix}
+use Rattle.tp_terms.proofs.AddedLemmas.{begins, goes, stops_within}
 use Rattle.tp_lex.specs.Characters.{dot, quote, backslash, is_graphic}
 use Rattle.std.specs.List.{list_all}
 use Rattle.tp_write.specs.Names.{is_solo, is_graphic_name, begins_comment, all_escaped, escaped, quoted}
-
-pub chars-pushed : (old new : List ℕ) (c : ℕ) → IsUtf8 old → IsScalar c → new ≡ old ++ encode_utf8 c → chars new ≡ chars old ++ c ∷ []
-chars-pushed old new c u s e =
-    let one : chars (encode_utf8 c) ≡ c ∷ [] = chars_past_char (encode_utf8 c) [] c (IsUtf8-encode c s) (sym (append-nil (encode_utf8 c))) ∙ ap (λ l. c ∷ l) chars-nil in
-    ap chars e ∙ chars-append old (encode_utf8 c) u ∙ ap (λ l. chars old ++ l) one
-
-pub chars-joined : (old new text : List ℕ) → IsUtf8 old → new ≡ old ++ text → chars new ≡ chars old ++ chars text
-chars-joined old new text u e = ap chars e ∙ chars-append old text u
 
 -- a text that isn't this one has another name
 apart : (bytes text : List ℕ) → IsUtf8 bytes → is_utf8 text ≡ true → chars text ≡ text → bytes ≢ text → names_eq (chars bytes) text ≡ false
@@ -126,9 +116,6 @@ pub code_goes : (c d : ℕ) (before now new : List ℕ) → d ≡ digit_char (c 
 code_goes c d before now new s e p =
     goes before now new (code_escape c) (digit_char (c % 16) ∷ codes "\\") (digit_char (c % 16) ∷ []) (codes "\\") p refl (e ∙ ap (λ n. now ++ n ∷ []) s)
 
-pub code_ends : (c : ℕ) (before now new : List ℕ) → new ≡ now ++ backslash ∷ [] → Progress before now (code_escape c) (codes "\\") → new ≡ before ++ code_escape c
-code_ends c before now new e p = ends before new (code_escape c) [] (goes before now new (code_escape c) (codes "\\") (codes "\\") [] p refl e) refl
-
 -- what is left of a name between quotes
 pub quoted-rest : (cs after : List ℕ) (c : ℕ) → cs ≡ c ∷ after → all_escaped cs ++ quote ∷ [] ≡ escaped c ++ (all_escaped after ++ quote ∷ [])
 quoted-rest cs after c e = ap (λ l. all_escaped l ++ quote ∷ []) e ∙ append_assoc (escaped c) (all_escaped after) (quote ∷ [])
@@ -139,8 +126,9 @@ quoted-begins before now n e = goes before before now (quoted n) (quoted n) (quo
 pub quoted-goes : (before now new : List ℕ) (n cs after : Name) (c : ℕ) → cs ≡ c ∷ after → new ≡ now ++ escaped c → Progress before now (quoted n) (all_escaped cs ++ quote ∷ []) → Progress before new (quoted n) (all_escaped after ++ quote ∷ [])
 quoted-goes before now new n cs after c e a p = goes before now new (quoted n) (all_escaped cs ++ quote ∷ []) (escaped c) (all_escaped after ++ quote ∷ []) p (quoted-rest cs after c e) a
 
-pub quoted-stops : (before now new : List ℕ) (n cs after : Name) (c : ℕ) → cs ≡ c ∷ after → PrefixAdded now new (escaped c) → Progress before now (quoted n) (all_escaped cs ++ quote ∷ []) → PrefixAdded before new (quoted n)
+pub quoted-stops : (before now new : List ℕ) (n cs after : Name) (c : ℕ) → cs ≡ c ∷ after → AddsPrefix now new (escaped c) → Progress before now (quoted n) (all_escaped cs ++ quote ∷ []) → AddsPrefix before new (quoted n)
 quoted-stops before now new n cs after c e a p = stops_within before now new (quoted n) (all_escaped cs ++ quote ∷ []) (escaped c) (all_escaped after ++ quote ∷ []) p (quoted-rest cs after c e) a
 
-pub quoted-ends : (before now new : List ℕ) (n cs : Name) → cs ≡ [] → new ≡ now ++ quote ∷ [] → Progress before now (quoted n) (all_escaped cs ++ quote ∷ []) → new ≡ before ++ quoted n
-quoted-ends before now new n cs e a p = ends before new (quoted n) [] (goes before now new (quoted n) (all_escaped cs ++ quote ∷ []) (quote ∷ []) [] p (ap (λ l. all_escaped l ++ quote ∷ []) e) a) refl
+-- at the end of the name the closing quote is left
+pub quoted-last : (cs : Name) → cs ≡ [] → quote ∷ [] ≡ all_escaped cs ++ quote ∷ []
+quoted-last cs e = ap (λ l. all_escaped l ++ quote ∷ []) (sym e)

@@ -8,7 +8,7 @@ use lib.Utf8.{scalar}
 use Rattle.std.proofs.Math.Utf8.{low_scalar}
 use Rattle.std.proofs.lemmas.Bool.{lt-ltb, le-leb, not-false, and_from, agree_below, agree_below_at, ne_eqb}
 use Rattle.std.proofs.lemmas.Fmt.{decimal_is_IsNumeral, decimal_digit, first_decimal}
-use Rattle.unicode_ident.proofs.IdentLemmas.{is_xid_continue-ascii}
+use Rattle.tp_lex.proofs.CharacterLemmas.{continuing-ascii}
 use Rattle.tp_lex.specs.Characters.{is_graphic, is_name_start, is_variable_start, is_in_class}
 use Rattle.tp_lex.specs.declared.chars.Class.TheVariants.{Continuing}
 use Rattle.tp_lex.specs.Digits.{after_digits, value_with}
@@ -49,7 +49,7 @@ digit_of c l =
     let d : is_digit c 10 ≡ true = lt-ltb (digit_value c) 10 l in
     record {
       digit = d;
-      continuing = is_xid_continue-ascii c low ∙ implied (λ x. is_ascii_alphanumeric x || (x == 95)) c refl low d;
+      continuing = continuing-ascii c low ∙ implied (λ x. is_ascii_alphanumeric x || (x == 95)) c refl low d;
       name = no_name_start c (lt-ltb c 128 low) (denied is_ascii_alphabetic c refl low d);
       variable = denied is_variable_start c refl low d;
       graphic = denied is_graphic c refl low d;

@@ -3,5 +3,4 @@ pub mod Names
 pub mod Text
 pub mod Under
 pub mod Escaping
-pub mod Progress
 pub mod Work

@@ -3,13 +3,7 @@ use Rattle.std.specs.Prelude.{ℕ, Bool, false, not, ◌&&◌, ◌||◌, ◌==�
 use Rattle.std.specs.List.{list_all}
 use Rattle.std.specs.Fmt.{digits}
 use Rattle.tp_terms.specs.Term.{Name, names_eq}
-use Rattle.tp_lex.specs.Characters.{quote, dot, slash, star, backslash, is_graphic, is_name_start, is_in_class}
-use Rattle.tp_lex.specs.declared.chars.Class.TheVariants.{Continuing}
-
--- a letter-digit name, as tokens have it
-abbrev pub is_letter_digit : Name → Bool
-is_letter_digit [] = false
-is_letter_digit (c ∷ cs) = is_name_start c && list_all (is_in_class Continuing) cs
+use Rattle.tp_lex.specs.Characters.{quote, dot, slash, star, backslash, is_graphic, is_letter_digit}
 
 abbrev pub begins_comment : Name → Bool
 begins_comment (c ∷ d ∷ cs) = (c == slash) && (d == star)

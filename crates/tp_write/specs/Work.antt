@@ -204,10 +204,19 @@ behind_pieces names at (cell.Comp name first count) = pair_pieces names name at 
 
 -- ---- a step of the work
 
--- a part of the text was added, and the pieces that are left stand for the rest
-pub record Stepped (table : Table) (names : List Name) (bindings : Bindings) (cells : List Cell) (p : Piece) (old new : List Piece) (before now : List ℕ) : Type 0 where
-  pub part : List ℕ
-  pub added : now ≡ before ++ part
-  pub same : piece_text table names bindings cells p ++ stack_text table names bindings cells old ≡ part ++ stack_text table names bindings cells new
+-- what a step adds for a piece: the whole text of what is no term, and else nothing
+abbrev pub own_text : List Name → Piece → List ℕ
+own_text names (piece.Mark c) = c ∷ []
+own_text names (piece.Name name) = name_text (name_at names name.at)
+own_text names (piece.Number n) = decimal n
+own_text names (piece.Integer z) = signed_decimal z
+own_text names (piece.Term at position) = []
+own_text names (piece.Args first count) = []
+own_text names (piece.Behind at) = []
+
+-- The stack behind a step, whose piece is no longer on the old one: with what the step added it stands for the same
+-- text, and there is less to do.
+pub record Stepped (table : Table) (names : List Name) (bindings : Bindings) (cells : List Cell) (p : Piece) (old new : List Piece) : Type 0 where
+  pub same : piece_text table names bindings cells p ++ stack_text table names bindings cells old ≡ own_text names p ++ stack_text table names bindings cells new
   pub pieces : ArePieces (length names) cells new
   pub smaller : stack_weight names bindings cells new < piece_weight names bindings cells p + stack_weight names bindings cells old
