@@ -14,7 +14,7 @@ use Rattle.tp_meaning.specs.Subst.{value_at, apply}
 use Rattle.tp_meaning.specs.World.{World}
 use Rattle.tp_parse.specs.Table.{Table}
 use Rattle.tp_write.specs.Under.{under}
-use Rattle.tp_write.proofs.UnderLemmas.{under-agrees}
+use Rattle.tp_write.proofs.BindingsEnd.Under.{under-agrees}
 use Rattle.tp_report.specs.Report.{answer_lines, answer_of, world_answer_text}
 use Rattle.tp_report.specs.Seen.{value_by, value_under, variable_seen, kind_seen, event_seen, answer_under}
 use Rattle.tp_report.specs.Worlds.{StandsFor}

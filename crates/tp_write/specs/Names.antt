@@ -27,9 +27,26 @@ is_solo n =
 abbrev pub is_bare : Name → Bool
 is_bare n = is_letter_digit n || (is_solo n || is_graphic_name n)
 
+-- ---- escapes
+
+-- a control character of ASCII
+abbrev pub is_control : ℕ → Bool
+is_control c = nat_lt c 32 || (c == 127)
+
 -- the escape of a code in hexadecimal digits
 abbrev pub code_escape : ℕ → List ℕ
 code_escape c = codes "\\x" ++ (digits 16 false c ++ codes "\\")
+
+-- the escape of a control character without its last digit and the closing backslash
+abbrev pub escape_start : ℕ → List ℕ
+escape_start c =
+    if nat_lt c 16 then codes "\\x"
+    else if nat_lt c 32 then codes "\\x1"
+    else codes "\\x7"
+
+-- a character that has no escape of one letter
+abbrev pub coded : ℕ → List ℕ
+coded c = if is_control c then code_escape c else c ∷ []
 
 -- a character between quotes
 abbrev pub escaped : ℕ → List ℕ
@@ -43,8 +60,7 @@ escaped c =
     else if c == 11 then codes "\\v"
     else if c == 12 then codes "\\f"
     else if c == 13 then codes "\\r"
-    else if nat_lt c 32 || (c == 127) then code_escape c
-    else c ∷ []
+    else coded c
 
 -- so each character of a list
 abbrev pub all_escaped : List ℕ → List ℕ
