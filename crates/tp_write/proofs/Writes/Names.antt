@@ -12,7 +12,7 @@ use Rattle.tp_terms.proofs.TextLemmas.{names_eq-apart, same_bytes}
 use Rattle.tp_terms.specs.Term.{Name, names_eq}
 use Rattle.tp_terms.specs.Added.{Progress, AddsPrefix}
 use Rattle.tp_terms.proofs.AddedLemmas.{begins, goes, stops_within}
-use Rattle.tp_lex.specs.Characters.{dot, quote, backslash, is_graphic}
+use Rattle.tp_lex.specs.Characters.{dot, quote, is_graphic}
 use Rattle.std.specs.List.{list_all}
 use Rattle.tp_write.specs.Names.{is_solo, is_graphic_name, begins_comment, all_escaped, escaped, quoted}
 

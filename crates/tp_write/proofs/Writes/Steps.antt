@@ -6,7 +6,7 @@ use Rattle.tp_terms.specs.declared.cells.Cell.TheVariants as cell
 use Rattle.tp_terms.specs.declared.cells.Ref.{Ref}
 use Rattle.tp_terms.specs.declared.cells.AtomId.{AtomId}
 use Rattle.tp_terms.specs.Term.{Name}
-use Rattle.tp_terms.specs.Shown.{name_at, StandsBefore, AreNamed}
+use Rattle.tp_terms.specs.Shown.{StandsBefore, AreNamed}
 use Rattle.tp_terms.specs.Added.{Progress, AddsPrefix}
 use Rattle.tp_terms.specs.Binds.{Bindings}
 use Rattle.tp_terms.proofs.AddedLemmas.{begins, goes, ends, stops_within}
