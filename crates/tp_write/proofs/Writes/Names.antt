@@ -1,20 +1,17 @@
 -- Names, by their bytes.
-use Rattle.std.proofs.Common.{◌≡◌, ◌≢◌, ℕ, Bool, true, false, not, ◌&&◌, ◌||◌, ◌⊎◌, inl, inr, List, [], ◌∷◌, ◌++◌, ◌%◌, ◌<◌, codes, refl, sym, ap, ◌∙◌, arith, append_assoc, nat_lt, if◌then◌else◌}
-use Rattle.std.proofs.Common.{zero, suc, nat_eq, ◌≤◌}
+use Rattle.std.proofs.Common.{◌≡◌, ◌≢◌, ℕ, Bool, true, false, not, ◌&&◌, ◌||◌, ◌⊎◌, inl, inr, List, [], ◌∷◌, ◌++◌, ◌%◌, ◌<◌, codes, refl, sym, ap, ◌∙◌, arith, append_assoc, nat_lt, if◌then◌else◌, zero, suc, nat_eq, ◌≤◌}
 use Rattle.std.proofs.lemmas.Bool.{eqb-true, ltb-true, lt-ltb, le-ltb, cases_eq}
 use Rattle.std.specs.Char.{digit_char}
 use Rattle.std.specs.Fmt.{digits}
-use Rattle.tp_terms.proofs.TextLemmas.{names_eq-true}
-use Rattle.tp_write.specs.Names.{code_escape, escape_start, is_control}
+use Rattle.tp_terms.proofs.TextLemmas.{names_eq-true, names_eq-apart, same_bytes}
+use Rattle.tp_write.specs.Names.{code_escape, escape_start, is_control, is_solo, is_graphic_name, begins_comment, all_escaped, escaped, quoted}
 use Rattle.std.proofs.lemmas.Str.{IsUtf8-from_is_utf8}
 use Rattle.std.specs.Str.{IsUtf8, is_utf8, chars}
-use Rattle.tp_terms.proofs.TextLemmas.{names_eq-apart, same_bytes}
 use Rattle.tp_terms.specs.Term.{Name, names_eq}
 use Rattle.tp_terms.specs.Added.{Progress, AddsPrefix}
 use Rattle.tp_terms.proofs.AddedLemmas.{begins, goes, stops_within}
 use Rattle.tp_lex.specs.Characters.{dot, quote, is_graphic}
 use Rattle.std.specs.List.{list_all}
-use Rattle.tp_write.specs.Names.{is_solo, is_graphic_name, begins_comment, all_escaped, escaped, quoted}
 
 -- a text that isn't this one has another name
 apart : (bytes text : List ℕ) → IsUtf8 bytes → is_utf8 text ≡ true → chars text ≡ text → bytes ≢ text → names_eq (chars bytes) text ≡ false

@@ -10,11 +10,10 @@ use Rattle.tp_lex.specs.Characters.{quote, backslash, newline}
 use Rattle.tp_lex.specs.Escapes.{escape}
 use Rattle.tp_lex.specs.Escapes as lex
 use Rattle.tp_lex.specs.Digits.{after_digits, value_with}
-use Rattle.tp_lex.specs.Quotes.{item, inside, with_first}
+use Rattle.tp_lex.specs.Quotes.{item, inside, with_first, stood_for, after_closing}
 use Rattle.tp_lex.specs.declared.quotes.Item.TheVariants.{Stands, Closed}
 use Rattle.tp_lex.specs.declared.token.TokenKind.TheVariants as kind
 use Rattle.tp_lex.specs.Form.{name_of, value_of, quotes_form}
-use Rattle.tp_lex.specs.Quotes.{stood_for, after_closing}
 use Rattle.tp_lex.proofs.QuoteLemmas.{inside-at}
 use Rattle.tp_write.specs.Names.{is_control, escaped, code_escape, all_escaped, quoted}
 use Rattle.tp_write.proofs.ReadsBack.Pieces.{Stand, Piece}
