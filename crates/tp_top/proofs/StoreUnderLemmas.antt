@@ -24,7 +24,7 @@ use Rattle.tp_store.proofs.StoreLemmas.{value-bound, value-unbound}
 use Rattle.tp_parse.specs.Ops.{Entries, table_of}
 use Rattle.tp_write.specs.Text.{text}
 use Rattle.tp_write.specs.Under.{under}
-use Rattle.tp_write.proofs.UnderLemmas.{under-agrees}
+use Rattle.tp_write.proofs.BindingsEnd.Under.{under-agrees}
 use Rattle.tp_terms.specs.Events.{EventStands}
 use Rattle.tp_report.specs.Report.{world_answer_text}
 use Rattle.tp_report.specs.Seen.{kind_by, event_by, process_names, seen_in as in_scene}

@@ -2,5 +2,4 @@ pub mod Back
 pub mod Names
 pub mod Text
 pub mod Under
-pub mod Escaping
 pub mod Work

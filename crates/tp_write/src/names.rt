@@ -3,9 +3,9 @@
 ghost use Rattle.std.specs.Prelude.{◌≡◌, ◌%◌, chars, IsTrue, IfSome, IfNone};
 ghost use Rattle.std.specs.Char.{digit_char};
 ghost use Rattle.tp_terms.specs.Added.{Adds};
-ghost use Rattle.tp_write.specs.Names.{name_text, begins_comment, is_graphic_name, is_solo};
-ghost use Rattle.tp_write.specs.Names.{is_bare, code_escape, escaped, quoted};
-ghost use Rattle.tp_write.specs.Escaping.{coded, escape_start, is_control};
+ghost use Rattle.tp_write.specs.Names.{begins_comment, is_bare, is_graphic_name, is_solo};
+ghost use Rattle.tp_write.specs.Names.{code_escape, coded, escape_start, escaped, is_control};
+ghost use Rattle.tp_write.specs.Names.{name_text, quoted};
 
 use tp_lex::{Class, are_in_class, is_letter_digit, split_first};
 use tp_terms::{NoMemory, push_char, push_text};

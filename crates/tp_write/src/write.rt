@@ -123,7 +123,12 @@ pub fn write_term<B: Binds>(
     ensures added { Adds out.old out.new result (text (table_of ops.now) max
         (under atoms.now (B.bindings binds.now) cells.now.items root.at)) }
 {
-    let source = Source { cells, binds, ops, atoms };
+    let source = Source {
+        cells,
+        binds,
+        ops,
+        atoms,
+    };
     let mut stack = Vec::new(alloc);
     stack.push(Piece::Term(root, Position::Within(max)))?;
     'pieces: while let Some(piece) = stack.pop() {

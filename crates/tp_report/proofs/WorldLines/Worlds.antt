@@ -9,7 +9,7 @@ use Rattle.tp_terms.specs.Term.{Name, Term}
 use Rattle.tp_terms.specs.Binds.{bound_in, Fits}
 use Rattle.tp_meaning.specs.Subst.{value_at}
 use Rattle.tp_meaning.specs.World.{World}
-use Rattle.tp_write.proofs.UnderLemmas.{under-agrees}
+use Rattle.tp_write.proofs.BindingsEnd.Under.{under-agrees}
 use Rattle.tp_report.specs.Report.{answer_lines, answer_of, world_answer_text}
 use Rattle.tp_report.specs.Seen.{Seen, term_seen, value_by, value_seen, variable_seen, kind_by, event_by, answer_seen}
 use Rattle.tp_report.specs.Lines.{lines_seen}

@@ -1,4 +1,4 @@
-use Rattle.tp_write.proofs.NameLemmas.{graphic-none, graphic-then}
+use Rattle.tp_write.proofs.Writes.Names.{graphic-none, graphic-then}
 use Rattle.tp_write.proofs.names.is_graphic_name.Goals as goal
 
 pub returns-in-empty : goal.returns-in-empty

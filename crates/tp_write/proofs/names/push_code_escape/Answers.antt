@@ -1,5 +1,5 @@
 use Rattle.tp_terms.proofs.AddedLemmas.{Adds-exit, Adds-none, Adds-last, stops}
-use Rattle.tp_write.proofs.NameLemmas.{code_started, code_goes}
+use Rattle.tp_write.proofs.Writes.Names.{code_started, code_goes}
 use Rattle.tp_write.proofs.names.push_code_escape.Goals as goal
 
 pub returns-in_err-push_text : goal.returns-in_err-push_text

@@ -1,6 +1,6 @@
 use Rattle.std.proofs.Common.{chars}
 use Rattle.tp_terms.proofs.AddedLemmas.{Adds-exit, Adds-none}
-use Rattle.tp_write.proofs.NameLemmas.{quoted-stops}
+use Rattle.tp_write.proofs.Writes.Names.{quoted-stops}
 use Rattle.tp_write.proofs.names.write_quoted.Goals as goal
 
 pub returns-in_err-push_char : goal.returns-in_err-push_char

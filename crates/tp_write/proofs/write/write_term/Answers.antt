@@ -5,7 +5,7 @@ use Rattle.tp_parse.specs.Ops.{table_of}
 use Rattle.tp_write.specs.declared.pieces.Piece.TheVariants.{Term}
 use Rattle.tp_write.specs.declared.pieces.Position.TheVariants.{Within}
 use Rattle.tp_write.specs.Work.{ArePieces}
-use Rattle.tp_write.proofs.WorkLemmas.{taken-pieces, work-begins, work-smaller, work-goes, work-stops, work-ends, nothing_left}
+use Rattle.tp_write.proofs.Writes.Steps.{taken-pieces, work-begins, work-smaller, work-goes, work-stops, work-ends, nothing_left}
 use Rattle.tp_write.proofs.write.write_term.Goals as goal
 
 pub pieces-init : goal.pieces-init

@@ -15,15 +15,17 @@ use Rattle.tp_lex.proofs.SuffixLemmas.{EndsWith, ends-same, ends-trans}
 use Rattle.tp_lex.proofs.LayoutLemmas.{past_layout-goes, past_layout-stops}
 use Rattle.tp_lex.proofs.PlaceLemmas.{place_of}
 use Rattle.tp_lex.proofs.TokensLemmas.{tokens-next}
-use Rattle.tp_write.proofs.WrittenPieces.{Stand, First, Directly, Spaced, Piece, gap, is_direct, spelled, token, laid, places_in}
-use Rattle.tp_write.proofs.WordsLexBackLemmas.{Forms}
+use Rattle.tp_write.proofs.ReadsBack.Pieces.{Stand, First, Directly, Spaced, Piece, gap, is_direct, spelled, token, laid, places_in}
+use Rattle.tp_write.proofs.ReadsBack.Lexed.Words.{Forms}
 
 -- ---- pieces that are lexed as themselves
 
+-- there are no pieces
 abbrev pub is_none : List Piece → Bool
 is_none [] = true
 is_none (p ∷ ps) = false
 
+-- where the first of some pieces stands
 abbrev pub stand_of : List Piece → Stand
 stand_of [] = First
 stand_of (p ∷ ps) = p.stand
@@ -44,6 +46,7 @@ pub record IsLexed (p : Piece) (ps : List Piece) : Type 0 where
   pub ends : is_end p.kind ≡ is_none ps
   pub later : Later ps
 
+-- each of some pieces is lexed as itself
 abbrev pub AreLexed : List Piece → Type 0
 AreLexed [] = Unit {0}
 AreLexed (p ∷ ps) = IsLexed p ps × AreLexed ps
@@ -154,6 +157,7 @@ tokens_laid text u (p ∷ ps) a n e =
     ∙ ap (λ t. chosen (is_end p.kind) t (tokens_from ToEnd text later (Some later))) (lexed_piece text p ps a.0.forms own.seen here.short)
     ∙ laid_step text p ps a.0 (λ some. tokens_laid text u ps a.1 some (ends-trans (from_byte text 0) (p.own ++ spelled ps) (spelled ps) own_ends (ends_later p ps)))
 
+-- the tokens of a text that the pieces spell are the pieces
 pub tokens_whole : (ps : List Piece) → AreLexed ps → is_none ps ≡ false → stand_of ps ≡ First → all_scalars (spelled ps) ≡ true →
     tokens (encode_utf8_all (spelled ps)) 0 ≡ Ok (laid (places_in (encode_utf8_all (spelled ps))) ps)
 tokens_whole ps a n s c =

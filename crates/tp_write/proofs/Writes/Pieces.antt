@@ -18,7 +18,7 @@ use Rattle.tp_write.specs.Names.{name_text}
 use Rattle.tp_write.specs.Text.{unary_text, binary_text, infix_name, in_parentheses, args_text, tail_text, written, all_written}
 use Rattle.tp_write.specs.Under.{under}
 use Rattle.tp_write.specs.Work.{unders, cell_term, cell_form, cell_closed, closed, piece_text, stack_text, piece_weight, stack_weight, infix_pieces, compound_pieces, alone_pieces, mark_if, term_pieces, args_pieces, tail_pieces, behind_pieces}
-use Rattle.tp_write.proofs.FormLemmas.{unary-cases, binary-cases, closed-cell}
+use Rattle.tp_write.proofs.Writes.Forms.{unary-cases, binary-cases, closed-cell}
 
 module _ (table : Table) (names : List Name) (bindings : Bindings) (cells : List Cell) where
   abbrev texts : List Piece → List ℕ
@@ -32,6 +32,7 @@ module _ (table : Table) (names : List Name) (bindings : Bindings) (cells : List
 
   -- ---- stacks
 
+  -- the text of two stacks, the upper of which comes first
   pub texts-append : (ps qs : List Piece) → texts (ps ++ qs) ≡ texts qs ++ texts ps
   unfolding stack_text
   texts-append [] qs = sym (append-nil (texts qs))
@@ -39,15 +40,18 @@ module _ (table : Table) (names : List Name) (bindings : Bindings) (cells : List
       ap (λ l. l ++ piece_text table names bindings cells p) (texts-append ps qs)
       ∙ append_assoc (texts qs) (texts ps) (piece_text table names bindings cells p)
 
+  -- the weight of two stacks
   pub weights-append : (ps qs : List Piece) → weights (ps ++ qs) ≡ weights ps + weights qs
   unfolding stack_weight
   weights-append [] qs = omega arith
   weights-append (p ∷ ps) qs = let h = weights-append ps qs in omega arith
 
+  -- the text of a stack of one piece
   pub texts-one : (p : Piece) → texts (p ∷ []) ≡ piece_text table names bindings cells p
   unfolding stack_text
   texts-one p = refl
 
+  -- the weight of a stack of one piece
   pub weights-one : (p : Piece) → weights (p ∷ []) ≡ piece_weight names bindings cells p
   unfolding stack_weight
   weights-one p = omega arith
@@ -177,6 +181,7 @@ module _ (table : Table) (names : List Name) (bindings : Bindings) (cells : List
       (λ t. t)
       tail
 
+  -- the pieces of what follows an element have its text
   pub behind-text : (at : Ref) (c : Cell) → at_place at.at ≡ cell_term names bindings cells c → texts (behind_pieces names at c) ≡ (written table (cell_term names bindings cells c)).behind
   unfolding stack_text written all_written
   behind-text at (cell.Var number) same = tail-pieces-text at ∙ ap tail_of same

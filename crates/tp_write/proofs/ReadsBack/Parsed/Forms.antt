@@ -11,10 +11,10 @@ use Rattle.tp_parse.specs.Ahead.{opens_directly, is_integer_directly, is_minus, 
 use Rattle.tp_parse.specs.Grammar.{IsOtherName, Reads, whole, Begins, integer, variable, empty_brackets, empty_braces, list, braces, compound, negative, operator_as_atom, operator, atom, last_element, more_elements, element_and_tail, Arguments, last_argument, more_arguments, Goes, infix_part}
 use Rattle.tp_write.specs.Text.{priority, is_operator_atom, operand_closed, left_closed}
 use Rattle.tp_write.specs.Back.{IsInteger64, Depths, enclosed_depth, depth_within, args_depth, left_depth, right_depth}
-use Rattle.tp_write.proofs.WrittenPieces as pieces
-use Rattle.tp_write.proofs.WrittenPieces.{Stand, First, Spaced, Directly, Piece, Places, Part, Parts, token, laid, mark, word, number, minus_sign, integer_part, enclosed, within_part, atom_by, infix_by, left_part, right_part, prefix_part, args_part, call_part, tail_part, list_parts, in_braces, tree_of, trees_of}
-use Rattle.tp_write.proofs.EndsBackLemmas.{IsTable, Ends, Starts, none_some, some-of, delimits_of, close_closes, close_list_closes, close_curly_closes, bar_closes, comma_delimits, and_false, word_is_name, name_starts, open_starts, open_list_starts, open_curly_starts, number_starts, negative_starts, prefix_alone, no_infix_alone, opens_not_alone, infix_token}
-use Rattle.tp_write.proofs.PartsBackLemmas.{open_right, Back, BackOf, Behind, EachBoth, bracketed, inner, delimited, closed, unclosed, no_entry, left_bound_low, right_bound_low, left_unclosed}
+use Rattle.tp_write.proofs.ReadsBack.Pieces as pieces
+use Rattle.tp_write.proofs.ReadsBack.Pieces.{Stand, First, Spaced, Directly, Piece, Places, Part, Parts, token, laid, mark, word, number, minus_sign, integer_part, enclosed, within_part, atom_by, infix_by, left_part, right_part, prefix_part, args_part, call_part, tail_part, list_parts, in_braces, tree_of, trees_of}
+use Rattle.tp_write.proofs.ReadsBack.Parsed.Ends.{IsTable, Ends, Starts, none_some, some-of, delimits_of, close_closes, close_list_closes, close_curly_closes, bar_closes, comma_delimits, and_false, word_is_name, name_starts, open_starts, open_list_starts, open_curly_starts, number_starts, negative_starts, prefix_alone, no_infix_alone, opens_not_alone, infix_token}
+use Rattle.tp_write.proofs.ReadsBack.Parsed.Parts.{open_right, Back, BackOf, Behind, EachBoth, bracketed, inner, delimited, closed, unclosed, no_entry, left_bound_low, right_bound_low, left_unclosed}
 
 -- ---- arguments
 
@@ -121,6 +121,7 @@ infix_back ops tab at f a b d e p q back other o is =
 
 -- ---- braces and lists
 
+-- a term in braces is read as its tree
 pub braces_back : (ops : Table) → IsTable ops → (at : Places) (a : Term) (d : ℕ) (p : Part) → BackOf ops at a d p → Back ops at (Comp (codes "{}") (More a NoMore)) 0 0 (depth_within ops 1200 a d + 1) (in_braces ops a p)
 braces_back ops tab at a d p back = record {
   deep = omega arith;
@@ -130,6 +131,7 @@ braces_back ops tab at a d p back = record {
   starts = λ e more. open_curly_starts ops at _;
 }
 
+-- a list is read as its tree
 pub list_back : (ops : Table) → IsTable ops → (at : Places) (h t : Term) (d e : ℕ) (p : Part) (rest : List Piece → List Piece) → BackOf ops at h d p → Behind ops at t e rest →
     Back ops at (Comp (codes ".") (More h (More t NoMore))) 0 0 (max (depth_within ops 999 h d) e + 1) (list_parts ops h p rest).alone
 list_back ops tab at h t d e p rest back behind =
@@ -145,6 +147,7 @@ list_back ops tab at h t d e p rest back behind =
       starts = λ x more. open_list_starts ops at _;
     }
 
+-- what follows an element, where it is a list, is read as the rest of the list
 pub list_behind : (ops : Table) → IsTable ops → (at : Places) (h t : Term) (d e : ℕ) (p : Part) (rest : List Piece → List Piece) → BackOf ops at h d p → Behind ops at t e rest →
     Behind ops at (Comp (codes ".") (More h (More t NoMore))) (max (depth_within ops 999 h d) e) (list_parts ops h p rest).behind
 list_behind ops tab at h t d e p rest back behind = record {
@@ -172,6 +175,7 @@ empty_behind ops at = record {
 
 -- ---- atomic terms
 
+-- a variable is read as its tree
 pub variable_back : (ops : Table) (at : Places) (v : ℕ) → Back ops at (Var v) 0 0 1 (λ s more. pieces.variable s v ∷ more)
 unfolding is_atom_before
 variable_back ops at v = record {
@@ -181,6 +185,7 @@ variable_back ops at v = record {
   starts = λ e more. record { call = refl; sign = refl; atom = refl };
 }
 
+-- an integer is read as its tree
 pub integer_back : (ops : Table) → IsTable ops → (at : Places) (z : ℤ) → IsInteger64 z → Back ops at (Int z) 0 0 1 (integer_part z)
 integer_back ops tab at (pos n) h = record {
   deep = omega arith;
@@ -227,6 +232,7 @@ name_back ops at a = record {
   starts = λ e more. name_starts ops _ _ (word_is_name Spaced a) (no_infix_alone ops a _ (no_entry ops a e).1);
 }
 
+-- an atom is read as its tree
 pub atom_back : (ops : Table) (at : Places) (a : Name) (x y : Bool) → (x ≡ true → a ≡ codes "[]") → (y ≡ true → a ≡ codes "{}") → Back ops at (Atom a) 0 0 1 (atom_by x y a)
 atom_back ops at a true y h k = subst (λ (n : Name). Back ops at (Atom n) 0 0 1 pieces.brackets_part) (sym (h refl)) (brackets_back ops at)
 atom_back ops at a false true h k = subst (λ (n : Name). Back ops at (Atom n) 0 0 1 pieces.braces_part) (sym (k refl)) (empty_braces_back ops at)

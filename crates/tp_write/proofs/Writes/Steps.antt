@@ -6,7 +6,7 @@ use Rattle.tp_terms.specs.declared.cells.Cell.TheVariants as cell
 use Rattle.tp_terms.specs.declared.cells.Ref.{Ref}
 use Rattle.tp_terms.specs.declared.cells.AtomId.{AtomId}
 use Rattle.tp_terms.specs.Term.{Name}
-use Rattle.tp_terms.specs.Shown.{name_at, StandsBefore, AreNamed}
+use Rattle.tp_terms.specs.Shown.{StandsBefore, AreNamed}
 use Rattle.tp_terms.specs.Added.{Progress, AddsPrefix}
 use Rattle.tp_terms.specs.Binds.{Bindings}
 use Rattle.tp_terms.proofs.AddedLemmas.{begins, goes, ends, stops_within}
@@ -21,8 +21,8 @@ use Rattle.tp_write.specs.Names.{name_text}
 use Rattle.tp_write.specs.Text.{text, written, in_parentheses}
 use Rattle.tp_write.specs.Under.{under}
 use Rattle.tp_write.specs.Work.{closed, piece_text, stack_text, IsPiece, ArePieces, weigh, piece_weight, stack_weight, term_pieces, args_pieces, behind_pieces, Ends, own_text, Stepped}
-use Rattle.tp_write.proofs.PieceLemmas.{texts-append, weights-append, texts-one, weights-one, term-text, args-text, behind-text}
-use Rattle.tp_write.proofs.WeightLemmas.{AreArgs, ArePieces-append, ArePieces-front, term-there, args-there, behind-there, term-weight, args-weight, behind-weight}
+use Rattle.tp_write.proofs.Writes.Pieces.{texts-append, weights-append, texts-one, weights-one, term-text, args-text, behind-text}
+use Rattle.tp_write.proofs.Writes.Weights.{AreArgs, ArePieces-append, ArePieces-front, term-there, args-there, behind-there, term-weight, args-weight, behind-weight}
 
 module _ (table : Table) (names : List Name) (bindings : Bindings) (cells : List Cell) where
   abbrev There : List Piece → Type 0
@@ -57,6 +57,7 @@ module _ (table : Table) (names : List Name) (bindings : Bindings) (cells : List
       let there = ended.place in
       record { some = some; there = omega arith; small = omega arith }
 
+  -- the pieces of a term stand in its place
   pub step-term : (p : Piece) (at : Ref) (position : Position) (end : End) (old new : List Piece) → p ≡ piece.Term at position → Ends bindings cells at.at end → end.place.at < 2 ^ 64 → AreNamed (length names) cells → There old → new ≡ old ++ term_pieces table names position end.cell → Step p old new
   step-term p at position end old new is ended small named h e =
       subst (λ q. Step q old new) (sym is)
@@ -66,6 +67,7 @@ module _ (table : Table) (names : List Name) (bindings : Bindings) (cells : List
       (term-there names cells table position end.cell (ended.named (length names) named) (args-of at.at end ended small))
       (let w = term-weight table names bindings cells position end.cell in let k = ap weigh (ended.same names) in omega arith))
 
+  -- the pieces of what follows an element stand in its place
   pub step-behind : (p : Piece) (at : Ref) (end : End) (old new : List Piece) → p ≡ piece.Behind at → Ends bindings cells at.at end → end.place.at < 2 ^ 64 → There old → new ≡ old ++ behind_pieces names end.place end.cell → Step p old new
   step-behind p at end old new is ended small h e =
       subst (λ q. Step q old new) (sym is)
@@ -75,6 +77,7 @@ module _ (table : Table) (names : List Name) (bindings : Bindings) (cells : List
       (behind-there names cells end.place end.cell ended.place (args-of at.at end ended small))
       (let w = behind-weight table names bindings cells end.place end.cell (ended.last names) in let k = ap weigh (ended.same names) in omega arith))
 
+  -- the pieces of arguments stand in their place
   pub step-args : (p : Piece) (first : Ref) (n : ℕ) (old new : List Piece) → p ≡ piece.Args first n → IsPiece (length names) cells p → There old → new ≡ old ++ args_pieces first n → Step p old new
   step-args p first n old new is there h e =
       let k : IsPiece (length names) cells (piece.Args first n) = subst (IsPiece (length names) cells) is there in
@@ -108,6 +111,7 @@ module _ (table : Table) (names : List Name) (bindings : Bindings) (cells : List
   taken-text : (stack rest : List Piece) (p : Piece) → stack ≡ rest ++ p ∷ [] → texts stack ≡ piece_text table names bindings cells p ++ texts rest
   taken-text stack rest p e = ap texts e ∙ texts-append table names bindings cells rest (p ∷ []) ∙ ap (λ l. l ++ texts rest) (texts-one table names bindings cells p)
 
+  -- a step leaves less to do
   pub work-smaller : (stack rest new : List Piece) (p : Piece) → stack ≡ rest ++ p ∷ [] → Step p rest new → weights new < weights stack
   work-smaller stack rest new p e s =
       let a = ap weights e in
@@ -129,21 +133,23 @@ module _ (table : Table) (names : List Name) (bindings : Bindings) (cells : List
       (taken-text stack rest p e ∙ ap (λ l. l ++ texts rest) own.1 ∙ append_assoc (own_text names p) own.0 (texts rest))
       within
 
+  -- at the beginning nothing was added, and the stack stands for the whole text
   pub work-begins : (out : List ℕ) (root : Ref) (max : ℕ) (stack : List Piece) → stack ≡ piece.Term root (Within max) ∷ [] → Progress out out (text table max (under names bindings cells root.at)) (texts stack)
   unfolding text
   work-begins out root max stack e =
       let same : texts stack ≡ text table max (under names bindings cells root.at) = ap texts e ∙ texts-one table names bindings cells (piece.Term root (Within max)) in
       subst (Progress out out (text table max (under names bindings cells root.at))) (sym same) (begins out out (text table max (under names bindings cells root.at)) refl)
 
+  -- where the stack is empty, the whole text was added
   pub work-ends : (start now whole : List ℕ) (stack : List Piece) → stack ≡ [] → Progress start now whole (texts stack) → now ≡ start ++ whole
   unfolding stack_text
   work-ends start now whole stack e progress = ends start now whole (texts stack) progress (ap texts e)
 
--- a stack from which nothing could be taken
 is_some_not : (o : Option Piece) → IsSome o → ((x : Piece) → o ≡ Some x → ⊥) → ⊥
 is_some_not None some h = absurd (cc)
 is_some_not (Some x) some h = h x refl
 
+-- a stack from which nothing could be taken is empty
 pub nothing_left : (stack : List Piece) (n : ℕ) (o : Option Piece) → (0 < n → IsSome o) → ((x : Piece) → o ≡ Some x → ⊥) → n ≡ length stack → stack ≡ []
 nothing_left [] n o some none e = refl
 nothing_left (p ∷ stack) n o some none e = absurd (is_some_not o (some (omega arith)) none)

@@ -10,16 +10,15 @@ use Rattle.tp_lex.specs.Characters.{quote, backslash, newline}
 use Rattle.tp_lex.specs.Escapes.{escape}
 use Rattle.tp_lex.specs.Escapes as lex
 use Rattle.tp_lex.specs.Digits.{after_digits, value_with}
-use Rattle.tp_lex.specs.Quotes.{item, inside, with_first}
+use Rattle.tp_lex.specs.Quotes.{item, inside, with_first, stood_for, after_closing}
 use Rattle.tp_lex.specs.declared.quotes.Item.TheVariants.{Stands, Closed}
 use Rattle.tp_lex.specs.declared.token.TokenKind.TheVariants as kind
 use Rattle.tp_lex.specs.Form.{name_of, value_of, quotes_form}
-use Rattle.tp_lex.specs.Quotes.{stood_for, after_closing}
 use Rattle.tp_lex.proofs.QuoteLemmas.{inside-at}
-use Rattle.tp_write.specs.Names.{escaped, code_escape, all_escaped, quoted}
-use Rattle.tp_write.proofs.WrittenPieces.{Stand, Piece}
-use Rattle.tp_write.proofs.CharactersLexBackLemmas.{any_is, begins_calm, calm_of, no_gap}
-use Rattle.tp_write.proofs.WordsLexBackLemmas.{Forms, form_quote}
+use Rattle.tp_write.specs.Names.{is_control, escaped, code_escape, all_escaped, quoted}
+use Rattle.tp_write.proofs.ReadsBack.Pieces.{Stand, Piece}
+use Rattle.tp_write.proofs.ReadsBack.Lexed.Characters.{any_is, begins_calm, calm_of, no_gap}
+use Rattle.tp_write.proofs.ReadsBack.Lexed.Words.{Forms, form_quote}
 
 -- ---- one character
 
@@ -74,9 +73,6 @@ spells_itself c q b n = record { item_of = λ more. rw (q, b, n) refl; character
 abbrev controls : List ℕ
 controls =
     0 ∷ 1 ∷ 2 ∷ 3 ∷ 4 ∷ 5 ∷ 6 ∷ 7 ∷ 8 ∷ 9 ∷ 10 ∷ 11 ∷ 12 ∷ 13 ∷ 14 ∷ 15 ∷ 16 ∷ 17 ∷ 18 ∷ 19 ∷ 20 ∷ 21 ∷ 22 ∷ 23 ∷ 24 ∷ 25 ∷ 26 ∷ 27 ∷ 28 ∷ 29 ∷ 30 ∷ 31 ∷ 127 ∷ []
-
-abbrev is_control : ℕ → Bool
-is_control c = nat_lt c 32 || (c == 127)
 
 control_low : (c : ℕ) → is_control c ≡ true → c < 128
 control_low c e = elim (or_cases (nat_lt c 32) (c == 127) e) [
@@ -217,6 +213,7 @@ escaped_spells c =
     cond_both (c == 13) _ _ (Spells c) (λ e. same_spells 13 c _ e spells_return) (λ no_return.
     cond_both (is_control c) _ _ (Spells c) (spells_code c) (λ no_control. spells_itself c no_quote no_backslash no_newline))))))))))
 
+-- two lists of characters one behind the other
 pub scalars_append : (xs ys : List ℕ) → all_scalars xs ≡ true → all_scalars ys ≡ true → all_scalars (xs ++ ys) ≡ true
 scalars_append [] ys x y = y
 scalars_append (c ∷ xs) ys x y = let both = and_parts (scalar c) (all_scalars xs) x in and_from (scalar c) (all_scalars (xs ++ ys)) both.0 (scalars_append xs ys both.1 y)
@@ -227,6 +224,7 @@ escaped_scalars (c ∷ cs) e =
     let both = and_parts (scalar c) (all_scalars cs) e in
     scalars_append (escaped c) (all_escaped cs) ((escaped_spells c).characters both.0) (escaped_scalars cs both.1)
 
+-- the text of a name in quotes is made of characters
 pub quoted_scalars : (n : Name) → all_scalars n ≡ true → all_scalars (quoted n) ≡ true
 quoted_scalars n e = scalars_append (all_escaped n) (quote ∷ []) (escaped_scalars n e) refl
 
@@ -247,6 +245,7 @@ inside_escaped (c ∷ cs) rest e =
 abbrev pub in_quotes : Stand → Name → Piece
 in_quotes s f = record { stand = s; kind = kind.Quoted; name = f; value = 0; own = quoted f }
 
+-- the characters of a name in quotes are lexed as the name
 pub quoted_forms : (s : Stand) (f : Name) (rest : List ℕ) → begins_calm rest ≡ true → Forms (in_quotes s f) rest
 unfolding name_of value_of
 quoted_forms s f rest e =

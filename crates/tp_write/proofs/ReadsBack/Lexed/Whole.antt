@@ -12,15 +12,15 @@ use Rattle.tp_lex.specs.Characters.{is_letter_digit}
 use Rattle.tp_write.specs.Names.{is_solo, is_graphic_name, quoted, name_text}
 use Rattle.tp_write.specs.Text.{tail_text, Form, Listed, Braces, Infix, Prefix, Plain, form_of, priority, atom_text, Written, unary_text, binary_text, written, all_written, text}
 use Rattle.tp_write.specs.Back.{IsReadable, AreReadable, NamesCompound, IsInteger64, written_clause}
-use Rattle.tp_write.proofs.WrittenPieces.{Stand, First, Directly, Spaced, Piece, Parts, gap, spelled, laid, places_in, mark, word, brackets_part, braces_part, variable, variable_name, number, minus_sign, integer_part, atom_by, atom_part, unary_parts, binary_parts, behind_atom, atom_parts, parts, all_parts, end, clause_pieces}
-use Rattle.tp_write.proofs.ShapeBackLemmas.{BeginsWith, begins}
-use Rattle.tp_write.proofs.TreeBackLemmas.{UnaryCase, in_braces, prefixed, called, unary_case, BinaryCase, listed, infixed, called_with_two, binary_case}
-use Rattle.tp_write.proofs.WordsLexBackLemmas.{Forms, minus_forms, open_list_forms, close_list_forms, open_curly_forms, close_curly_forms, end_forms}
-use Rattle.tp_write.proofs.NumbersLexBackLemmas.{decimal_scalars, variable_forms, number_forms, IsNumber, number_first}
-use Rattle.tp_write.proofs.QuotedLexBackLemmas.{scalars_append}
-use Rattle.tp_write.proofs.TokensLexBackLemmas as lexing
-use Rattle.tp_write.proofs.TokensLexBackLemmas.{IsLexed, AreLexed, is_none, stand_of, tokens_whole}
-use Rattle.tp_write.proofs.SpellBackLemmas.{later, Runs, last_piece, one_more_piece, Follows, SpellsPart, SpellsBehind, SpellsBoth, EachSpells, IsWord, word_runs, enclosed_spells, tail_spells, not_list_spells, call_spells, prefix_spells, infix_spells, braces_spell, list_spells}
+use Rattle.tp_write.proofs.ReadsBack.Pieces.{Stand, First, Directly, Spaced, Piece, Parts, gap, spelled, laid, places_in, mark, word, brackets_part, braces_part, variable, variable_name, number, minus_sign, integer_part, atom_by, atom_part, unary_parts, binary_parts, behind_atom, atom_parts, parts, all_parts, end, clause_pieces}
+use Rattle.tp_write.proofs.ReadsBack.Shape.{BeginsWith, begins}
+use Rattle.tp_write.proofs.ReadsBack.Parsed.Whole.{UnaryCase, in_braces, prefixed, called, unary_case, BinaryCase, listed, infixed, called_with_two, binary_case}
+use Rattle.tp_write.proofs.ReadsBack.Lexed.Words.{Forms, minus_forms, open_list_forms, close_list_forms, open_curly_forms, close_curly_forms, end_forms}
+use Rattle.tp_write.proofs.ReadsBack.Lexed.Numbers.{decimal_scalars, variable_forms, number_forms, IsNumber, number_first}
+use Rattle.tp_write.proofs.ReadsBack.Lexed.Quoted.{scalars_append}
+use Rattle.tp_write.proofs.ReadsBack.Lexed.Tokens as lexing
+use Rattle.tp_write.proofs.ReadsBack.Lexed.Tokens.{IsLexed, AreLexed, is_none, stand_of, tokens_whole}
+use Rattle.tp_write.proofs.ReadsBack.Lexed.Spelled.{later, Runs, last_piece, one_more_piece, Follows, SpellsPart, SpellsBehind, SpellsBoth, EachSpells, IsWord, word_runs, enclosed_spells, tail_spells, not_list_spells, call_spells, prefix_spells, infix_spells, braces_spell, list_spells}
 
 -- ---- atomic terms
 
@@ -192,6 +192,7 @@ end_follows = record { calm = refl; later = refl; runs = last_piece (end_forms S
 stand_first : (ps : List Piece) → BeginsWith First ps → stand_of ps ≡ First
 stand_first ps b = ap stand_of b.parts ∙ b.stand
 
+-- the characters of a readable term with an end behind it are lexed as its pieces
 pub lexes_back : (t : Term) → IsReadable t → LexesBack t
 unfolding text
 lexes_back t h =

@@ -10,12 +10,12 @@ use Rattle.tp_parse.specs.Grammar.{is_name}
 use Rattle.tp_write.specs.Names.{is_bare, quoted, name_text}
 use Rattle.tp_write.specs.Text as text
 use Rattle.tp_write.specs.Text.{Form, Listed, Braces, Infix, Prefix, Plain, form_of, unary_form, binary_form, priority, in_parentheses, within, operand_closed, left_closed, infix_name, infix_text, prefix_text, args_text, call_text, tail_text, Written, unary_text, binary_text, atom_text, written, all_written}
-use Rattle.tp_write.proofs.WrittenPieces.{Stand, Directly, Spaced, gap, Piece, Part, Parts, spelled, mark, word, enclosed, within_part, infix_by, infix_part, right_part, prefix_part, args_part, call_part, tail_part, list_parts, in_braces}
-use Rattle.tp_write.proofs.ShapeBackLemmas.{BeginsWith, begins}
-use Rattle.tp_write.proofs.CharactersLexBackLemmas.{begins_calm}
-use Rattle.tp_write.proofs.WordsLexBackLemmas.{Forms, bare_name_forms, open_forms, close_forms, open_list_forms, close_list_forms, open_curly_forms, close_curly_forms, comma_forms, bar_forms}
-use Rattle.tp_write.proofs.QuotedLexBackLemmas.{quoted_scalars, quoted_forms}
-use Rattle.tp_write.proofs.TokensLexBackLemmas.{is_later}
+use Rattle.tp_write.proofs.ReadsBack.Pieces.{Stand, Directly, Spaced, gap, Piece, Part, Parts, spelled, mark, word, enclosed, within_part, infix_by, infix_part, right_part, prefix_part, args_part, call_part, tail_part, list_parts, in_braces}
+use Rattle.tp_write.proofs.ReadsBack.Shape.{BeginsWith, begins}
+use Rattle.tp_write.proofs.ReadsBack.Lexed.Characters.{begins_calm}
+use Rattle.tp_write.proofs.ReadsBack.Lexed.Words.{Forms, bare_name_forms, open_forms, close_forms, open_list_forms, close_list_forms, open_curly_forms, close_curly_forms, comma_forms, bar_forms}
+use Rattle.tp_write.proofs.ReadsBack.Lexed.Quoted.{quoted_scalars, quoted_forms}
+use Rattle.tp_write.proofs.ReadsBack.Lexed.Tokens.{is_later}
 
 -- ---- pieces that may follow each other
 
@@ -92,6 +92,7 @@ word_fits s f rest w b = record {
     ends true = refl
     ends false = refl
 
+-- a name before what may follow it is lexed as itself
 pub word_runs : (s : Stand) (f : Name) (ps : List Piece) → IsWord f → Follows ps → Runs (word s f ∷ ps)
 word_runs s f ps w h = let k = word_fits s f (spelled ps) w h.calm in one_more_piece k.forms k.characters k.no_end h.later h.runs
 
@@ -100,6 +101,7 @@ word_runs s f ps w h = let k = word_fits s f (spelled ps) w h.calm in one_more_p
 close_follows : (more : List Piece) → Follows more → Follows (mark Directly kind.Close 41 ∷ more)
 close_follows more h = record { calm = refl; later = refl; runs = before_first Directly kind.Close 41 close_forms refl refl more h.later h.runs }
 
+-- a term in parentheses spells its text in parentheses
 pub enclosed_spells : (w : Bool) (p : Part) (own : List ℕ) → SpellsPart p own → SpellsPart (enclosed w p) (in_parentheses w own)
 enclosed_spells false p own h = h
 enclosed_spells true p own h = record {
@@ -112,19 +114,23 @@ enclosed_spells true p own h = record {
 
 -- ---- what stands behind an element
 
+-- the pieces of what follows an element spell this text, and may follow the element
 pub record SpellsBehind (behind : List Piece → List Piece) (own : List ℕ) : Type 0 where
   pub spells : (more : List Piece) → spelled (behind more) ≡ own ++ spelled more
   pub follows : (more : List Piece) → Follows more → Follows (behind more)
 
+-- the pieces of a term spell its texts, alone and behind an element
 pub record SpellsBoth (ps : Parts) (w : Written) : Type 0 where
   pub alone : SpellsPart ps.alone w.alone
   pub behind : SpellsBehind ps.behind w.behind
 
+-- so do those of each argument
 abbrev pub EachSpells : List Parts → List Written → Type 0
 EachSpells [] [] = Unit {0}
 EachSpells (p ∷ ps) (w ∷ ws) = SpellsBoth p w × EachSpells ps ws
 EachSpells ps ws = ⊥
 
+-- a bar and a term that is no list spell their text
 pub tail_spells : (ops : Table) (t : Term) (p : Part) (own : List ℕ) → SpellsPart p own → SpellsBehind (tail_part ops t p) (tail_text ops t own)
 tail_spells ops t p own h =
     let inner = enclosed_spells (nat_lt 999 (priority ops t)) p own h in
@@ -135,6 +141,7 @@ tail_spells ops t p own h =
           record { calm = refl; later = refl; runs = before_first Directly kind.Bar 124 bar_forms refl refl ps (later_of Directly ps (inner.begin Directly more) refl) (inner.runs Directly more f) };
     }
 
+-- a term that is no list spells its texts
 pub not_list_spells : (ops : Table) (t : Term) (p : Part) (own : List ℕ) → SpellsPart p own → SpellsBoth (record { alone = p; behind = tail_part ops t p }) (text.not_list ops t own)
 not_list_spells ops t p own h = record { alone = h; behind = tail_spells ops t p own h }
 
@@ -179,6 +186,7 @@ args_spell ops (More t (More u us)) (p ∷ ps) (w ∷ ws) h =
           later_of Directly (within_part ops 999 t p.alone Directly (mark Directly kind.Comma 44 ∷ args_part ops (More u us) ps more)) (inner.begin Directly (mark Directly kind.Comma 44 ∷ args_part ops (More u us) ps more)) refl;
     }
 
+-- a name with its arguments in parentheses spells its text
 pub call_spells : (ops : Table) (f : Name) (ts : Terms) (ps : List Parts) (ws : List Written) → IsWord f → EachSpells ps ws → SpellsPart (call_part ops f ts ps) (call_text ops f ts ws)
 call_spells ops f ts ps ws w h =
     let args = args_spell ops ts ps ws h in
@@ -204,6 +212,7 @@ spaced_follows p own h more f = record {
   runs = h.runs Spaced more f;
 }
 
+-- a prefix operator with its operand spells its text
 pub prefix_spells : (ops : Table) (o : Op) (f : Name) (a : Term) (p : Part) (own : List ℕ) → IsWord f → SpellsPart p own → SpellsPart (prefix_part ops o f a p) (prefix_text ops o f a own)
 prefix_spells ops o f a p own w h =
     let closed = operand_closed ops (right_bound o) a in
@@ -229,6 +238,7 @@ infix_by_spells false f right own w h = record {
   follows = λ more k. record { calm = refl; later = refl; runs = word_runs Spaced f (right Spaced more) (w refl) (spaced_follows right own h more k) };
 }
 
+-- an infix operator with its operands spells its text
 pub infix_spells : (ops : Table) (o : Op) (f : Name) (a : Term) (p : Part) (left : List ℕ) (b : Term) (q : Part) (right : List ℕ) → IsWord f → SpellsPart p left → SpellsPart q right →
     SpellsPart (infix_part ops o f a p b q) (infix_text ops o f a left b right)
 infix_spells ops o f a p left b q right w h k =
@@ -254,6 +264,7 @@ curly_follows more h = record { calm = refl; later = refl; runs = before_first D
 list_follows : (more : List Piece) → Follows more → Follows (mark Directly kind.CloseList 93 ∷ more)
 list_follows more h = record { calm = refl; later = refl; runs = before_first Directly kind.CloseList 93 close_list_forms refl refl more h.later h.runs }
 
+-- a term in braces spells its text
 pub braces_spell : (ops : Table) (a : Term) (p : Part) (own : List ℕ) → SpellsPart p own → SpellsPart (in_braces ops a p) (codes "{" ++ (within ops 1200 a own ++ codes "}"))
 braces_spell ops a p own h =
     let inner = enclosed_spells (nat_lt 1200 (priority ops a)) p own h in
@@ -267,6 +278,7 @@ braces_spell ops a p own h =
       begin = λ s more. begins _ _;
     }
 
+-- an element and what follows it spell their texts
 pub list_spells : (ops : Table) (h : Term) (p : Part) (own : List ℕ) (rest : List Piece → List Piece) (behind : List ℕ) → SpellsPart p own → SpellsBehind rest behind → SpellsBoth (list_parts ops h p rest) (text.list_text ops h own behind)
 list_spells ops h p own rest behind k b =
     let inner = enclosed_spells (nat_lt 999 (priority ops h)) p own k in

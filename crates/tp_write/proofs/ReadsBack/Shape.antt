@@ -3,7 +3,7 @@ use Rattle.std.proofs.Common.{◌≡◌, ℕ, Bool, true, false, ℤ, pos, negsu
 use Rattle.tp_terms.specs.Term.{Name, Term, Terms, Var, Int, Atom, Comp, NoMore, More, names_eq}
 use Rattle.tp_parse.specs.Table.{Op, Table}
 use Rattle.tp_write.specs.Text.{Form, Listed, Braces, Infix, Prefix, Plain, form_of}
-use Rattle.tp_write.proofs.WrittenPieces.{Stand, Directly, Spaced, Piece, Part, Parts, integer_part, atom_by, atom_part, enclosed, within_part, infix_by, infix_part, right_part, args_part, call_part, tail_part, not_list, unary_parts, binary_parts, behind_atom, parts, all_parts}
+use Rattle.tp_write.proofs.ReadsBack.Pieces.{Stand, Directly, Spaced, Piece, Part, Parts, integer_part, atom_by, atom_part, enclosed, within_part, infix_by, infix_part, right_part, args_part, call_part, tail_part, not_list, unary_parts, binary_parts, behind_atom, parts, all_parts}
 
 -- some pieces end with others
 pub record EndsWith (ps more : List Piece) : Type 0 where
@@ -29,6 +29,7 @@ pub record BeginsWith (s : Stand) (ps : List Piece) : Type 0 where
   pub parts : ps ≡ first ∷ rest
   pub stand : first.stand ≡ s
 
+-- a piece begins the pieces that it is the first of
 pub begins : (p : Piece) (ps : List Piece) → BeginsWith p.stand (p ∷ ps)
 begins p ps = record { first = p; rest = ps; parts = refl; stand = refl }
 

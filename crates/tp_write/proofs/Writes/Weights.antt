@@ -16,15 +16,17 @@ use Rattle.tp_write.specs.declared.pieces.Piece.{Piece}
 use Rattle.tp_write.specs.declared.pieces.Piece.TheVariants as piece
 use Rattle.tp_write.specs.Under.{under}
 use Rattle.tp_write.specs.Work.{unders, cell_term, cell_form, cell_closed, ArePieces, weigh, weigh_all, stack_weight, infix_pieces, compound_pieces, alone_pieces, mark_if, term_pieces, args_pieces, tail_pieces, behind_pieces}
-use Rattle.tp_write.proofs.FormLemmas.{unary-cases, binary-cases}
-use Rattle.tp_write.proofs.PieceLemmas.{weights-append}
+use Rattle.tp_write.proofs.Writes.Forms.{unary-cases, binary-cases}
+use Rattle.tp_write.proofs.Writes.Pieces.{weights-append}
 
 -- ---- pieces that are there
 
+-- the pieces of two stacks are there where those of each are
 pub ArePieces-append : (n : ℕ) (cells : List Cell) (ps qs : List Piece) → ArePieces n cells ps → ArePieces n cells qs → ArePieces n cells (ps ++ qs)
 ArePieces-append n cells [] qs h k = k
 ArePieces-append n cells (p ∷ ps) qs h k = (h.0, ArePieces-append n cells ps qs h.1 k)
 
+-- and those of each where the pieces of both are
 pub ArePieces-front : (n : ℕ) (cells : List Cell) (ps qs : List Piece) → ArePieces n cells (ps ++ qs) → ArePieces n cells ps × ArePieces n cells qs
 ArePieces-front n cells [] qs h = (tt, h)
 ArePieces-front n cells (p ∷ ps) qs h = let k = ArePieces-front n cells ps qs h.1 in ((h.0, k.0), k.1)
@@ -77,17 +79,20 @@ module _ (names : List Name) (cells : List Cell) where
           (plain-there name first 2 h a)
       by (suc (suc (suc n))) a = plain-there name first (suc (suc (suc n))) h a
 
+  -- the pieces of a term are there
   pub term-there : (table : Table) (position : Position) (c : Cell) → IsNamed (length names) c → ((name : AtomId) (first : Ref) (n : ℕ) → c ≡ cell.Comp name first n → AreArgs cells first.at n) → There (term_pieces table names position c)
   term-there table position c h args =
       let needed : Bool = cell_closed table names c (cell_form table names c) position in
       ArePieces-append (length names) cells (mark_if needed 41) (alone_pieces names (cell_form table names c) c ++ mark_if needed 40) (mark_if-there (length names) cells needed 41)
       (ArePieces-append (length names) cells (alone_pieces names (cell_form table names c) c) (mark_if needed 40) (alone-there table c h args) (mark_if-there (length names) cells needed 40))
 
+  -- the pieces of arguments are there
   pub args-there : (first : Ref) (n : ℕ) → AreArgs cells first.at n → There (args_pieces first n)
   args-there first zero a = tt
   args-there first (suc zero) a = let t = a.there in (omega arith, tt)
   args-there first (suc (suc n)) a = let t = a.there in let s = a.small in ((omega arith, omega arith, omega arith), (tt, (omega arith, tt)))
 
+  -- the pieces of what follows an element are there
   pub behind-there : (at : Ref) (c : Cell) → at.at < length cells → ((name : AtomId) (first : Ref) (n : ℕ) → c ≡ cell.Comp name first n → AreArgs cells first.at n) → There (behind_pieces names at c)
   behind-there at (cell.Var number) h args = tail-there at h
   behind-there at (cell.Int value) h args = tail-there at h
@@ -163,6 +168,7 @@ module _ (table : Table) (names : List Name) (bindings : Bindings) (cells : List
           (plain-weight name first 2)
       by (suc (suc (suc n))) = plain-weight name first (suc (suc (suc n)))
 
+  -- the pieces of a term have less to do than the term
   pub term-weight : (position : Position) (c : Cell) → weights (term_pieces table names position c) < 8 * weigh (cell_term names bindings cells c) + 4
   term-weight position c =
       let needed : Bool = cell_closed table names c (cell_form table names c) position in
@@ -174,6 +180,7 @@ module _ (table : Table) (names : List Name) (bindings : Bindings) (cells : List
       let middle = alone-weight c in
       omega arith
 
+  -- the pieces of arguments have less to do than the arguments
   pub args-weight : (first : Ref) (n : ℕ) → weights (args_pieces first n) < 8 * args_weight first.at n + 1
   unfolding stack_weight
   args-weight first zero = omega arith
@@ -186,6 +193,7 @@ module _ (table : Table) (names : List Name) (bindings : Bindings) (cells : List
   unfolding stack_weight
   tail-weight at = omega arith
 
+  -- the pieces of what follows an element have less to do than that
   pub behind-weight : (at : Ref) (c : Cell) → under names bindings cells at.at ≡ cell_term names bindings cells c → weights (behind_pieces names at c) < 8 * weigh (cell_term names bindings cells c) + 6
   unfolding stack_weight
   behind-weight at (cell.Var number) same = let h = tail-weight at in let e = ap weigh same in omega arith

@@ -16,8 +16,8 @@ use Rattle.tp_lex.specs.Layout.{closed, after_comment, after_gap, after_slash}
 use Rattle.tp_lex.specs.Form.{single, ends_clause, graphic_form, integer_form, quotes_form, single_form, form, before, name_of, value_of}
 use Rattle.tp_lex.proofs.TokenLemmas.{spelled-of}
 use Rattle.tp_write.specs.Names.{begins_comment, is_graphic_name, is_solo, is_bare}
-use Rattle.tp_write.proofs.WrittenPieces.{Stand, Piece, mark, minus_sign}
-use Rattle.tp_write.proofs.CharactersLexBackLemmas.{begins_calm, calm_of, run_ends, begins_gap, no_gap, name_start_no_gap, graphic_of, no_name_start}
+use Rattle.tp_write.proofs.ReadsBack.Pieces.{Stand, Piece, mark, minus_sign}
+use Rattle.tp_write.proofs.ReadsBack.Lexed.Characters.{begins_calm, calm_of, run_ends, begins_gap, no_gap, name_start_no_gap, graphic_of, no_name_start}
 
 -- a piece's characters before others are lexed as the piece, and no layout stands before them
 pub record Forms (p : Piece) (rest : List ℕ) : Type 0 where
@@ -35,14 +35,17 @@ pub form_name : (c : ℕ) (cs : List ℕ) → is_name_start c ≡ true → form 
 unfolding form
 form_name c cs e = rw e refl
 
+-- the form of what begins as a variable
 pub form_variable : (c : ℕ) (cs : List ℕ) → is_name_start c ≡ false → is_variable_start c ≡ true → form (c ∷ cs) ≡ Ok (kind.Variable, after_run Continuing cs)
 unfolding form
 form_variable c cs n v = rw (n, v) refl
 
+-- the form of what begins with a digit
 pub form_digit : (c : ℕ) (cs : List ℕ) → is_name_start c ≡ false → is_variable_start c ≡ false → is_digit c 10 ≡ true → form (c ∷ cs) ≡ integer_form (integer (c ∷ cs))
 unfolding form
 form_digit c cs n v d = rw (n, v, d) refl
 
+-- the form of what begins with a quote
 pub form_quote : (cs : List ℕ) → form (quote ∷ cs) ≡ quotes_form kind.Quoted (after_closing (inside quote cs))
 unfolding form
 form_quote cs = rw (no_name_start 39 refl refl) refl
@@ -66,6 +69,7 @@ pub name_spelled : (own rest : List ℕ) → form (own ++ rest) ≡ Ok (kind.Nam
 unfolding name_of
 name_spelled own rest e = spelled-of (own ++ rest) kind.Name rest e ∙ own_before own rest
 
+-- the characters of a variable's token are its name
 pub variable_spelled : (own rest : List ℕ) → form (own ++ rest) ≡ Ok (kind.Variable, rest) → name_of kind.Variable (own ++ rest) ≡ own
 unfolding name_of
 variable_spelled own rest e = spelled-of (own ++ rest) kind.Variable rest e ∙ own_before own rest
@@ -183,34 +187,42 @@ bare_name_forms s f rest e n m b = elim (or_cases (is_letter_digit f) (is_solo f
 pub mark_forms : (s : Stand) (k : TokenKind) (c : ℕ) (rest : List ℕ) → form (c ∷ rest) ≡ Ok (k, rest) → name_of k (c ∷ rest) ≡ [] → value_of k (c ∷ rest) ≡ 0 → begins_gap c ≡ false → Forms (mark s k c) rest
 mark_forms s k c rest e n v g = record { first = c; others = []; parts = refl; formed = e; named = n; valued = v; gapless = no_gap c rest g }
 
+-- an opening parenthesis is lexed as itself
 pub open_forms : (s : Stand) (rest : List ℕ) → Forms (mark s kind.Open 40) rest
 unfolding name_of value_of
 open_forms s rest = mark_forms s kind.Open 40 rest (single_by 40 rest (no_name_start 40 refl refl) refl refl refl refl refl kind.Open refl) refl refl refl
 
+-- a closing parenthesis is lexed as itself
 pub close_forms : (s : Stand) (rest : List ℕ) → Forms (mark s kind.Close 41) rest
 unfolding name_of value_of
 close_forms s rest = mark_forms s kind.Close 41 rest (single_by 41 rest (no_name_start 41 refl refl) refl refl refl refl refl kind.Close refl) refl refl refl
 
+-- an opening bracket is lexed as itself
 pub open_list_forms : (s : Stand) (rest : List ℕ) → Forms (mark s kind.OpenList 91) rest
 unfolding name_of value_of
 open_list_forms s rest = mark_forms s kind.OpenList 91 rest (single_by 91 rest (no_name_start 91 refl refl) refl refl refl refl refl kind.OpenList refl) refl refl refl
 
+-- a closing bracket is lexed as itself
 pub close_list_forms : (s : Stand) (rest : List ℕ) → Forms (mark s kind.CloseList 93) rest
 unfolding name_of value_of
 close_list_forms s rest = mark_forms s kind.CloseList 93 rest (single_by 93 rest (no_name_start 93 refl refl) refl refl refl refl refl kind.CloseList refl) refl refl refl
 
+-- an opening brace is lexed as itself
 pub open_curly_forms : (s : Stand) (rest : List ℕ) → Forms (mark s kind.OpenCurly 123) rest
 unfolding name_of value_of
 open_curly_forms s rest = mark_forms s kind.OpenCurly 123 rest (single_by 123 rest (no_name_start 123 refl refl) refl refl refl refl refl kind.OpenCurly refl) refl refl refl
 
+-- a closing brace is lexed as itself
 pub close_curly_forms : (s : Stand) (rest : List ℕ) → Forms (mark s kind.CloseCurly 125) rest
 unfolding name_of value_of
 close_curly_forms s rest = mark_forms s kind.CloseCurly 125 rest (single_by 125 rest (no_name_start 125 refl refl) refl refl refl refl refl kind.CloseCurly refl) refl refl refl
 
+-- a comma is lexed as itself
 pub comma_forms : (s : Stand) (rest : List ℕ) → Forms (mark s kind.Comma 44) rest
 unfolding name_of value_of
 comma_forms s rest = mark_forms s kind.Comma 44 rest (single_by 44 rest (no_name_start 44 refl refl) refl refl refl refl refl kind.Comma refl) refl refl refl
 
+-- a bar is lexed as itself
 pub bar_forms : (s : Stand) (rest : List ℕ) → Forms (mark s kind.Bar 124) rest
 unfolding name_of value_of
 bar_forms s rest = mark_forms s kind.Bar 124 rest (single_by 124 rest (no_name_start 124 refl refl) refl refl refl refl refl kind.Bar refl) refl refl refl

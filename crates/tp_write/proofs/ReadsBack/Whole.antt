@@ -13,11 +13,11 @@ use Rattle.tp_parse.specs.declared.fault.ReadCause.TheVariants as cause
 use Rattle.tp_parse.proofs.OneReading.Complete.{complete}
 use Rattle.tp_write.specs.Text.{text}
 use Rattle.tp_write.specs.Back.{written_clause, WrittenReadsBack}
-use Rattle.tp_write.proofs.WrittenPieces.{First, Piece, Places, gap, token, laid, spelled, first_spelled, places_in, clause_pieces, end, tree_of}
-use Rattle.tp_write.proofs.ShapeBackLemmas.{BeginsWith, within_shaped}
-use Rattle.tp_write.proofs.LexBackLemmas.{LexesBack, lexes_back}
-use Rattle.tp_write.proofs.TreeBackLemmas.{reads_tree}
-use Rattle.tp_write.proofs.NumberBackLemmas.{numbered_is}
+use Rattle.tp_write.proofs.ReadsBack.Pieces.{First, Piece, Places, gap, token, laid, spelled, first_spelled, places_in, clause_pieces, end, tree_of}
+use Rattle.tp_write.proofs.ReadsBack.Shape.{BeginsWith, within_shaped}
+use Rattle.tp_write.proofs.ReadsBack.Lexed.Whole.{LexesBack, lexes_back}
+use Rattle.tp_write.proofs.ReadsBack.Parsed.Whole.{reads_tree}
+use Rattle.tp_write.proofs.ReadsBack.Renumbered.{numbered_is}
 
 -- ---- the tokens of a clause
 
@@ -85,6 +85,7 @@ end_is bytes cs e =
     let one : length (encode_utf8_all (10 ∷ [])) ≡ 1 = ap (λ (l : List ℕ). length (l ++ [])) (encode_ascii 10 (omega arith)) in
     omega arith
 
+-- what is written of a readable term is read as the term with its variables renumbered
 pub written_reads_back : WrittenReadsBack
 written_reads_back t h d =
     let bytes = written_clause t in

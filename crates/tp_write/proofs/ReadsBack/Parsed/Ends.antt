@@ -8,7 +8,7 @@ use Rattle.tp_parse.specs.Table.{Op, Table}
 use Rattle.tp_parse.specs.Ahead.{is_open, is_integer, opens_directly, is_integer_directly, with_op_of, infix_name_by, named_infix, infix_ahead, is_infix_alone, is_atom_by, is_atom_before}
 use Rattle.tp_parse.specs.Grammar.{is_name}
 use Rattle.tp_write.specs.Names.{is_bare}
-use Rattle.tp_write.proofs.WrittenPieces.{Stand, Spaced, Directly, Piece, Places, Part, laid, mark, word, number, minus_sign, infix_by}
+use Rattle.tp_write.proofs.ReadsBack.Pieces.{Stand, Spaced, Directly, Piece, Places, Part, laid, mark, word, number, minus_sign, infix_by}
 
 -- what the table of the start keeps
 pub record IsTable (ops : Table) : Type 0 where
@@ -44,35 +44,44 @@ pub record Starts (ops : Table) (ts : List Lexed) : Type 0 where
   pub sign : is_integer_directly ts ≡ false
   pub atom : is_atom_before ops ts ≡ false
 
+-- nothing is not something
 pub none_some : {A : Type 0} (o : Option A) (x : A) → o ≡ None → o ≡ Some x → ⊥
 none_some None x e f = cc
 none_some (Some y) x e f = cc
 
+-- two things that are there are the same where both together are
 pub some-of : {A : Type 0} {x y : A} → Some x ≡ Some y → x ≡ y
 some-of e = cc
 
+-- what closes a term may stand behind an argument
 pub delimits_of : (ops : Table) (rest : List Lexed) → Closes ops rest → Delimits ops rest
 delimits_of ops rest c = record { call = c.call; sign = c.sign; atom = c.atom; next = λ f o e. absurd (none_some (infix_ahead ops rest) (f, o) c.next e) }
 
+-- what closes a term may stand behind any term
 pub ends_of : (ops : Table) (t : Term) (limit : ℕ) (rest : List Lexed) → Closes ops rest → Ends ops t limit rest
 ends_of ops t limit rest c = record { call = c.call; sign = c.sign; alone = λ f e. inr c.atom; next = λ f o e. absurd (none_some (infix_ahead ops rest) (f, o) c.next e) }
 
+-- a closing parenthesis closes a term
 pub close_closes : (ops : Table) (at : Places) (more : List Piece) → Closes ops (laid at (mark Directly kind.Close 41 ∷ more))
 unfolding is_atom_before infix_ahead
 close_closes ops at more = record { call = refl; sign = refl; atom = refl; next = refl }
 
+-- a closing bracket closes a term
 pub close_list_closes : (ops : Table) (at : Places) (more : List Piece) → Closes ops (laid at (mark Directly kind.CloseList 93 ∷ more))
 unfolding is_atom_before infix_ahead
 close_list_closes ops at more = record { call = refl; sign = refl; atom = refl; next = refl }
 
+-- a closing brace closes a term
 pub close_curly_closes : (ops : Table) (at : Places) (more : List Piece) → Closes ops (laid at (mark Directly kind.CloseCurly 125 ∷ more))
 unfolding is_atom_before infix_ahead
 close_curly_closes ops at more = record { call = refl; sign = refl; atom = refl; next = refl }
 
+-- a bar closes a term
 pub bar_closes : (ops : Table) (at : Places) (more : List Piece) → Closes ops (laid at (mark Directly kind.Bar 124 ∷ more))
 unfolding is_atom_before infix_ahead
 bar_closes ops at more = record { call = refl; sign = refl; atom = refl; next = refl }
 
+-- an end closes a term
 pub end_closes : (ops : Table) (at : Places) (more : List Piece) → Closes ops (laid at (mark Spaced kind.End 46 ∷ more))
 unfolding is_atom_before infix_ahead
 end_closes ops at more = record { call = refl; sign = refl; atom = refl; next = refl }
@@ -81,16 +90,19 @@ op_of : (name f : Name) (o : Op) (x : Option Op) → with_op_of name x ≡ Some 
 op_of name f o None e = cc
 op_of name f o (Some y) e = let z : y ≡ o = ap (λ (p : Name × Op). p.1) (some-of e) in ap Some z
 
+-- a comma may stand behind an argument
 pub comma_delimits : (ops : Table) → IsTable ops → (at : Places) (more : List Piece) → Delimits ops (laid at (mark Directly kind.Comma 44 ∷ more))
 unfolding is_atom_before infix_ahead
 comma_delimits ops tab at more = record { call = refl; sign = refl; atom = refl; next = λ f o e. tab.comma o (op_of (codes ",") f o (ops.infixes (codes ",")) e) }
 
 -- ---- names
 
+-- a conjunction whose second part fails
 pub and_false : (a b : Bool) → b ≡ false → (a && b) ≡ false
 and_false true b e = e
 and_false false b e = refl
 
+-- the token of a name is a name
 pub word_is_name : (s : Stand) (f : Name) → is_name (word s f).kind ≡ true
 word_is_name s f = go (is_bare f)
   where
@@ -104,6 +116,7 @@ kind_starts ops kind.Name name opens direct e h = (refl, refl, h)
 kind_starts ops kind.Quoted name opens direct e h = (refl, refl, h)
 kind_starts ops k name opens direct e h = cc
 
+-- a name that is no infix operator by itself may stand behind a prefix operator
 pub name_starts : (ops : Table) (t : Lexed) (ts : List Lexed) → is_name t.kind ≡ true → (is_infix_alone ops t.name && not (opens_directly ts)) ≡ false → Starts ops (t ∷ ts)
 unfolding is_atom_before
 name_starts ops t ts e h = let k = kind_starts ops t.kind t.name (opens_directly ts) t.direct e h in record { call = k.0; sign = k.1; atom = k.2 }
@@ -117,22 +130,27 @@ pub name_infix : (ops : Table) (t : Lexed) (ts : List Lexed) → is_name t.kind 
 unfolding infix_ahead
 name_infix ops t ts e = kind_infix ops t.kind t.name e
 
+-- an opening parenthesis behind a space may stand behind a prefix operator
 pub open_starts : (ops : Table) (at : Places) (more : List Piece) → Starts ops (laid at (mark Spaced kind.Open 40 ∷ more))
 unfolding is_atom_before
 open_starts ops at more = record { call = refl; sign = refl; atom = refl }
 
+-- an opening bracket may stand behind a prefix operator
 pub open_list_starts : (ops : Table) (at : Places) (more : List Piece) → Starts ops (laid at (mark Spaced kind.OpenList 91 ∷ more))
 unfolding is_atom_before
 open_list_starts ops at more = record { call = refl; sign = refl; atom = refl }
 
+-- an opening brace may stand behind a prefix operator
 pub open_curly_starts : (ops : Table) (at : Places) (more : List Piece) → Starts ops (laid at (mark Spaced kind.OpenCurly 123 ∷ more))
 unfolding is_atom_before
 open_curly_starts ops at more = record { call = refl; sign = refl; atom = refl }
 
+-- a number behind a space may stand behind a prefix operator
 pub number_starts : (ops : Table) (at : Places) (n : ℕ) (more : List Piece) → Starts ops (laid at (number Spaced n ∷ more))
 unfolding is_atom_before
 number_starts ops at n more = record { call = refl; sign = refl; atom = refl }
 
+-- a negative number may stand behind a prefix operator
 pub negative_starts : (ops : Table) → IsTable ops → (at : Places) (n : ℕ) (more : List Piece) → Starts ops (laid at (minus_sign Spaced ∷ number Directly n ∷ more))
 unfolding is_atom_before
 negative_starts ops tab at n more = record { call = refl; sign = refl; atom = ap (λ b. b && true) tab.minus }
@@ -147,6 +165,7 @@ prefix_alone ops f o b e = go (ops.prefixes f) (ops.infixes f) e
     go (Some z) None e = refl
     go (Some z) (Some w) e = refl
 
+-- a name that is no infix operator is none by itself
 pub no_infix_alone : (ops : Table) (f : Name) (b : Bool) → ops.infixes f ≡ None → (is_infix_alone ops f && b) ≡ false
 no_infix_alone ops f b e = go (ops.prefixes f) (ops.infixes f) e
   where
@@ -154,6 +173,7 @@ no_infix_alone ops f b e = go (ops.prefixes f) (ops.infixes f) e
     go x None e = refl
     go x (Some z) e = cc
 
+-- a name before a parenthesis is no infix operator by itself
 pub opens_not_alone : (ops : Table) (f : Name) → (is_infix_alone ops f && false) ≡ false
 opens_not_alone ops f = and_false (is_infix_alone ops f) false refl
 
@@ -177,6 +197,7 @@ comma_ahead : (ops : Table) (o : Op) (at : Places) (more : List Piece) → ops.i
 unfolding infix_ahead
 comma_ahead ops o at more is = ap (with_op_of (codes ",")) is
 
+-- the pieces between two operands are the token of their infix operator
 pub infix_token : (ops : Table) (at : Places) (f : Name) (o : Op) (right : Part) (more : List Piece) → ops.infixes f ≡ Some o →
     (b : Bool) → (b ≡ true → f ≡ codes ",") → IsInfixToken ops at f o right more (laid at (infix_by b f right more))
 infix_token ops at f o right more is true same =

@@ -6,7 +6,7 @@ use Rattle.tp_parse.specs.declared.table.OpType.{OpType}
 use Rattle.tp_parse.specs.declared.table.OpType.TheVariants.{Xfx, Xfy, Yfx, Fy, Fx}
 use Rattle.tp_parse.specs.Table.{Op, Table, changed, entry_of, with_op, Row, start_rows, empty_table, with_row, start_table}
 use Rattle.tp_parse.specs.Ahead.{is_infix_alone}
-use Rattle.tp_write.proofs.EndsBackLemmas.{IsTable, some-of}
+use Rattle.tp_write.proofs.ReadsBack.Parsed.Ends.{IsTable, some-of}
 
 -- each entry has a priority from 1 to 1200
 abbrev AreBounded : (Name → Option Op) → Type 0
@@ -88,6 +88,7 @@ minus_entry : is_infix_alone start_table (codes "-") ≡ false
 unfolding start_table
 minus_entry = refl
 
+-- the table of the start is such a table
 pub start_is_table : IsTable start_table
 start_is_table = record {
   prefixes = start_bounded.prefixes;

@@ -9,7 +9,7 @@ use Rattle.tp_terms.specs.Binds.{Bindings, bound_in, Fits}
 use Rattle.tp_terms.proofs.BindsLemmas.{occurs-shows}
 use Rattle.tp_write.specs.Under.{step_of, stepped, followed, under}
 use Rattle.tp_write.specs.Work.{unders}
-use Rattle.tp_write.proofs.TimesLemmas.{times, times-each, times-unbound, times-bound, settled-stays, settles-all, Follows, replaced-agree, replaced-twice}
+use Rattle.tp_write.proofs.BindingsEnd.Times.{times, times-each, times-unbound, times-bound, settled-stays, settles-all, Follows, replaced-agree, replaced-twice}
 
 -- one step of the bindings at a variable
 abbrev pub step_at : List Name → Bindings → List Cell → ℕ → Term

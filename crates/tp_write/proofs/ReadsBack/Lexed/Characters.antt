@@ -16,6 +16,7 @@ abbrev pub AllOf : (ℕ → Type 0) → List ℕ → Type 0
 AllOf P [] = Unit {0}
 AllOf P (c ∷ cs) = P c × AllOf P cs
 
+-- what holds of each character of a list holds of a character that is in it
 pub any_is : (P : ℕ → Type 0) (ms : List ℕ) → AllOf P ms → (c : ℕ) → list_any (λ m. m == c) ms ≡ true → P c
 any_is P [] a c e = cc
 any_is P (m ∷ ms) a c e = by (m == c) refl e (any_is P ms a.1 c)
@@ -33,6 +34,7 @@ calm_characters = codes "\n ()[]{},|"
 abbrev pub is_calm : ℕ → Bool
 is_calm c = list_any (λ m. m == c) calm_characters
 
+-- the text begins with a character that may follow a name, a variable or an integer
 abbrev pub begins_calm : List ℕ → Bool
 begins_calm [] = false
 begins_calm (c ∷ cs) = is_calm c
@@ -55,6 +57,7 @@ calm_by c low other g d q b s = record {
   star = s;
 }
 
+-- none of these characters goes on a name, a variable or an integer
 pub calm_of : (c : ℕ) → is_calm c ≡ true → IsCalm c
 calm_of = any_is IsCalm calm_characters (
   calm_by 10 refl refl refl refl refl refl refl,
@@ -104,6 +107,7 @@ run_ends class (c ∷ cs) rest a e =
 abbrev pub begins_gap : ℕ → Bool
 begins_gap c = is_layout c || ((c == percent) || (c == slash))
 
+-- such a character begins no layout and no comment
 pub no_gap : (c : ℕ) (cs : List ℕ) → begins_gap c ≡ false → after_gap (c ∷ cs) ≡ Ok None
 unfolding after_gap
 no_gap c cs e = by (is_layout c) (c == percent) (c == slash) refl refl refl e
@@ -121,6 +125,7 @@ high_no_gap c l = grind arith
 name_start_test : ℕ → Bool
 name_start_test c = is_ascii_alphabetic c && begins_gap c
 
+-- a character that begins a name begins no layout and no comment
 pub name_start_no_gap : (c : ℕ) → is_name_start c ≡ true → begins_gap c ≡ false
 unfolding name_start_test
 name_start_no_gap c e =
@@ -160,6 +165,7 @@ graphic_by c low other v d q w l p = record {
   single_byte = ltb-true c 128 low;
 }
 
+-- a graphic character begins no other kind of token
 pub graphic_of : (c : ℕ) → is_graphic c ≡ true → IsGraphic c
 graphic_of = any_is IsGraphic graphic_characters (
   graphic_by 43 refl refl refl refl refl refl refl refl,

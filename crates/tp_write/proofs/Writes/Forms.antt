@@ -26,18 +26,22 @@ named names at bytes text found e u v same f =
     ∙ ap (names_eq (chars bytes)) same
     ∙ ap (λ n. names_eq n text) (sym (name_at-slice_get names at (chars bytes) e))
 
+-- a test by bytes whether a name is that of list cells
 pub named_dot : (names : List Name) (at : ℕ) (bytes : List ℕ) (found : Bool) → slice_get names at ≡ Some (chars bytes) → IsUtf8 bytes → found ≡ bytes_eq bytes (codes ".") → found ≡ names_eq (name_at names at) (codes ".")
 unfolding chars is_utf8 lib.Utf8.encode
 named_dot names at bytes found e u f = named names at bytes (codes ".") found e u refl refl f
 
+-- a test by bytes whether a name is the empty list
 pub named_empty_list : (names : List Name) (at : ℕ) (bytes : List ℕ) (found : Bool) → slice_get names at ≡ Some (chars bytes) → IsUtf8 bytes → found ≡ bytes_eq bytes (codes "[]") → found ≡ names_eq (name_at names at) (codes "[]")
 unfolding chars is_utf8 lib.Utf8.encode
 named_empty_list names at bytes found e u f = named names at bytes (codes "[]") found e u refl refl f
 
+-- a test by bytes whether a name is that of terms in braces
 pub named_braces : (names : List Name) (at : ℕ) (bytes : List ℕ) (found : Bool) → slice_get names at ≡ Some (chars bytes) → IsUtf8 bytes → found ≡ bytes_eq bytes (codes "{}") → found ≡ names_eq (name_at names at) (codes "{}")
 unfolding chars is_utf8 lib.Utf8.encode
 named_braces names at bytes found e u f = named names at bytes (codes "{}") found e u refl refl f
 
+-- a test by bytes whether a name is that of conjunctions
 pub named_comma : (names : List Name) (at : ℕ) (bytes : List ℕ) (found : Bool) → slice_get names at ≡ Some (chars bytes) → IsUtf8 bytes → found ≡ bytes_eq bytes (codes ",") → found ≡ names_eq (name_at names at) (codes ",")
 unfolding chars is_utf8 lib.Utf8.encode
 named_comma names at bytes found e u f = named names at bytes (codes ",") found e u refl refl f
@@ -89,6 +93,7 @@ module _ (table : Table) (names : List Name) (bindings : Bindings) (cells : List
   operator-cell (cell.Atom name) = refl
   operator-cell (cell.Comp name first count) = refl
 
+  -- a term stands in parentheses exactly where its cell does
   pub closed-cell : (c : Cell) (position : Position) → closed table position (cell_term names bindings cells c) ≡ cell_closed table names c (cell_form table names c) position
   closed-cell c (Within max) = ap (λ f. nat_lt max (priority_by f)) (form-cell c)
   closed-cell c (Operand bound) =

@@ -11,8 +11,8 @@ use Rattle.tp_parse.specs.Ahead.{opens_directly, is_integer_directly, infix_ahea
 use Rattle.tp_parse.specs.Grammar.{Reads, whole, parentheses, Elements, Goes, no_operator, above_bound}
 use Rattle.tp_write.specs.Text.{Form, Infix, Prefix, form_of, priority_by, priority, is_operator_atom, may_stand_left, operand_closed, left_closed}
 use Rattle.tp_write.specs.Back.{Depths, enclosed_depth, depth_within}
-use Rattle.tp_write.proofs.WrittenPieces.{Stand, Spaced, Directly, Piece, Places, Part, Parts, laid, mark, enclosed, within_part, tree_of}
-use Rattle.tp_write.proofs.EndsBackLemmas.{Ends, Delimits, Closes, Starts, none_some, ends_of, close_closes}
+use Rattle.tp_write.proofs.ReadsBack.Pieces.{Stand, Spaced, Directly, Piece, Places, Part, Parts, laid, mark, enclosed, within_part, tree_of}
+use Rattle.tp_write.proofs.ReadsBack.Parsed.Ends.{Ends, Delimits, Closes, Starts, none_some, ends_of, close_closes}
 
 -- what the last operand of a form may take up behind it
 abbrev pub open_right_by : Form → ℕ
@@ -20,6 +20,7 @@ open_right_by (Infix o) = right_bound o
 open_right_by (Prefix o) = right_bound o
 open_right_by form = 0
 
+-- what the last operand of a term may take up behind it
 abbrev pub open_right : Table → Term → ℕ
 open_right ops t = open_right_by (form_of ops t)
 
@@ -31,6 +32,7 @@ pub record Back (ops : Table) (at : Places) (t : Term) (q limit d : ℕ) (p : Pa
       Goes ops m b (tree_of t) q (laid at more) u r us → Reads ops (suc m) b (laid at (p s more)) u r us
   pub starts : is_operator_atom ops t ≡ false → (more : List Piece) → Starts ops (laid at (p Spaced more))
 
+-- a term's pieces without parentheses are read as its tree
 abbrev pub BackOf : Table → Places → Term → ℕ → Part → Type 0
 BackOf ops at t d p = Back ops at t (priority ops t) (open_right ops t) d p
 
@@ -44,6 +46,7 @@ pub record Both (ops : Table) (at : Places) (t : Term) (ds : Depths) (ps : Parts
   pub alone : BackOf ops at t ds.alone ps.alone
   pub behind : Behind ops at t ds.behind ps.behind
 
+-- so are those of each argument
 abbrev pub EachBoth : Table → Places → Terms → List Depths → List Parts → Type 0
 EachBoth ops at NoMore ds ps = Unit {0}
 EachBoth ops at (More t ts) (d ∷ ds) (p ∷ ps) = Both ops at t d p × EachBoth ops at ts ds ps
@@ -59,6 +62,7 @@ stops ops m k x q rest h = go (infix_ahead ops rest) refl
     go None e = no_operator e
     go (Some fo) e = above_bound {f = fo.0} {o = fo.1} e (h fo.0 fo.1 e)
 
+-- a term in parentheses is read as its tree
 pub bracketed : (ops : Table) (at : Places) (t : Term) (d : ℕ) (p : Part) → BackOf ops at t d p → (m b : ℕ) (s : Stand) (more : List Piece) (us : List Lexed) (u : Tree) (r : ℕ) → d ≤ m →
     Goes ops m b (tree_of t) 0 (laid at more) u r us → Reads ops (suc m) b (laid at (enclosed true p s more)) u r us
 bracketed ops at t d p k zero b s more us u r l g = let a = k.deep in absurd (omega arith)
@@ -107,6 +111,7 @@ or_false false b e = (refl, e)
 pub unclosed : (ops : Table) (bound : ℕ) (t : Term) → operand_closed ops bound t ≡ false → (is_operator_atom ops t ≡ false) × (priority ops t ≤ bound)
 unclosed ops bound t e = let p = or_false (is_operator_atom ops t) (nat_lt bound (priority ops t)) e in (p.0, not_above bound (priority ops t) p.1)
 
+-- an atom that is no operator has no entry in the table
 pub no_entry : (ops : Table) (f : Name) → is_operator_atom ops (Atom f) ≡ false → (ops.prefixes f ≡ None) × (ops.infixes f ≡ None)
 no_entry ops f e = let p = or_false (is_some (ops.prefixes f)) (is_some (ops.infixes f)) e in (none-of (ops.prefixes f) p.0, none-of (ops.infixes f) p.1)
   where
@@ -128,9 +133,11 @@ right_by_low Yfx p = omega arith
 right_by_low Fy p = omega arith
 right_by_low Fx p = omega arith
 
+-- a left operand's bound is at most the operator's priority
 pub left_bound_low : (o : Op) → left_bound o ≤ o.0
 left_bound_low o = left_by_low o.1 o.0
 
+-- a right operand's bound is at most the operator's priority
 pub right_bound_low : (o : Op) → right_bound o ≤ o.0
 right_bound_low o = right_by_low o.1 o.0
 
@@ -141,6 +148,7 @@ left_leaves (Infix (p, Xfx)) e h = omega arith
 left_leaves (Prefix (p, Fx)) e h = omega arith
 left_leaves form e h = cc
 
+-- a left operand without parentheses fits, and leaves the operator alone
 pub left_unclosed : (ops : Table) (o : Op) (t : Term) → 0 < o.0 → open_right ops t ≤ priority ops t → left_closed ops o t ≡ false →
     (is_operator_atom ops t ≡ false) × (priority ops t ≤ left_bound o) × (open_right ops t < o.0)
 left_unclosed ops o t above low e =

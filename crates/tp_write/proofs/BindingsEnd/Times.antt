@@ -24,6 +24,7 @@ or_right false b e = e
 
 -- what a replacement does depends on the variables that occur
 mutual
+  -- two replacements that agree on the variables of a term do the same to it
   pub replaced-agree : (f g : ℕ → Term) (t : Term) → ((v : ℕ) → occurs v t ≡ true → f v ≡ g v) → replaced f t ≡ replaced g t
   replaced-agree f g (Var v) h = h v (same v)
     where
@@ -51,6 +52,7 @@ mutual
   all_replaced-Var (More t ts) = ap (λ u. More u (all_replaced Var ts)) (replaced-Var t) ∙ ap (More t) (all_replaced-Var ts)
 
 mutual
+  -- one replacement behind another is one replacement
   pub replaced-twice : (f g : ℕ → Term) (t : Term) → replaced f (replaced g t) ≡ replaced (λ v. replaced f (g v)) t
   replaced-twice f g (Var v) = refl
   replaced-twice f g (Int n) = refl
@@ -88,10 +90,12 @@ mutual
 
 -- ---- replacing again and again
 
+-- a replacement so many times
 unfoldable pub times : (ℕ → Term) → ℕ → Term → Term
 times s zero t = t
 times s (suc n) t = times s n (replaced s t)
 
+-- replacing so many times replaces each variable by what becomes of it
 pub times-each : (s : ℕ → Term) (n : ℕ) (t : Term) → times s n t ≡ replaced (λ v. times s n (Var v)) t
 unfolding times
 times-each s zero t = sym (replaced-Var t)
@@ -212,6 +216,7 @@ module _ (bindings : Bindings) (cells : List Cell) (s : ℕ → Term) (fits : Fi
             | inr old ↦ Leads-trans bindings cells u v x (led u old) (at_once step)
           ]
 
+  -- replacing as often as there are bindings leaves no bound variable
   pub settles-all : (t : Term) → Settled bindings (times s (length bindings) t)
   settles-all t = record {
     unbound = λ w o.
@@ -220,6 +225,7 @@ module _ (bindings : Bindings) (cells : List Cell) (s : ℕ → Term) (fits : Fi
         (settles (length bindings) (λ v. false) r.0 (unmet-none bindings) (λ u m. absurd (cc))).unbound w r.1.comes;
   }
 
+  -- a term without bound variables stays under what leaves unbound variables alone
   pub settled-stays : (t : Term) (f : ℕ → Term) → ((v : ℕ) → bound_in bindings v ≡ None → f v ≡ Var v) → Settled bindings t → replaced f t ≡ t
   settled-stays t f free h = replaced-agree f Var t (λ v o. free v (h.unbound v o)) ∙ replaced-Var t
 

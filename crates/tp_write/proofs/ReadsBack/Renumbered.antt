@@ -8,7 +8,7 @@ use Rattle.tp_terms.specs.Term.{Name, Term, Terms, Var, Int, Atom, Comp, NoMore,
 use Rattle.tp_terms.proofs.TextLemmas.{names_eq-same, names_eq-apart}
 use Rattle.tp_parse.specs.Numbers.{Numbers, no_numbers, number_in, known_number, number_of, numbered, all_numbered}
 use Rattle.tp_write.specs.Back.{IsReadable, AreReadable, variables, all_variables, with_new, first_occurrences, place_in, renumbered}
-use Rattle.tp_write.proofs.WrittenPieces.{variable_name, tree_of, trees_of}
+use Rattle.tp_write.proofs.ReadsBack.Pieces.{variable_name, tree_of, trees_of}
 
 -- ---- names of variables
 
@@ -196,5 +196,6 @@ mutual
       ∙ ap (λ (q : Terms × Numbers). (More (replaced (placed all) t) q.0, q.1)) b
       ∙ ap (λ (l : List ℕ). (More (replaced (placed all) t) (all_replaced (placed all) ts), numbers_of l)) (sym join)
 
+-- a term's tree with its variables numbered is the term with its variables renumbered
 pub numbered_is : (t : Term) → IsReadable t → (numbered (tree_of t) no_numbers).0 ≡ renumbered t
 numbered_is t h = ap (λ (r : Term × Numbers). r.0) (numbers t [] (first_occurrences (variables t)) [] h tt (sym (append-nil (first_occurrences (variables t)))))

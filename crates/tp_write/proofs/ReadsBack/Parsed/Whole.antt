@@ -6,19 +6,21 @@ use Rattle.tp_parse.specs.Table.{Op, Table, start_table}
 use Rattle.tp_parse.specs.Grammar.{Reads}
 use Rattle.tp_write.specs.Text.{Form, Listed, Braces, Infix, Prefix, Plain, unary_form, binary_form, form_of, priority_by}
 use Rattle.tp_write.specs.Back.{IsReadable, AreReadable, Depths, depth_within, atom_depths, unary_depths, binary_depths, depths, all_depths, depth}
-use Rattle.tp_write.proofs.WrittenPieces.{Piece, Places, Part, Parts, First, laid, atom_part, atom_parts, behind_atom, tail_part, unary_parts, binary_parts, parts, all_parts, clause_pieces, end, tree_of}
-use Rattle.tp_write.proofs.EndsBackLemmas.{IsTable, end_closes}
-use Rattle.tp_write.proofs.PartsBackLemmas.{open_right_by, Back, BackOf, Behind, Both, EachBoth, closed}
-use Rattle.tp_write.proofs.FormsBackLemmas.{call_back, prefix_back, infix_back, braces_back, list_back, list_behind, tail_behind, empty_behind, variable_back, integer_back, atom_back}
-use Rattle.tp_write.proofs.StartBackLemmas.{start_is_table}
+use Rattle.tp_write.proofs.ReadsBack.Pieces.{Piece, Places, Part, Parts, First, laid, atom_part, atom_parts, behind_atom, tail_part, unary_parts, binary_parts, parts, all_parts, clause_pieces, end, tree_of}
+use Rattle.tp_write.proofs.ReadsBack.Parsed.Ends.{IsTable, end_closes}
+use Rattle.tp_write.proofs.ReadsBack.Parsed.Parts.{open_right_by, Back, BackOf, Behind, Both, EachBoth, closed}
+use Rattle.tp_write.proofs.ReadsBack.Parsed.Forms.{call_back, prefix_back, infix_back, braces_back, list_back, list_behind, tail_behind, empty_behind, variable_back, integer_back, atom_back}
+use Rattle.tp_write.proofs.ReadsBack.Parsed.Start.{start_is_table}
 
 -- ---- the forms of compounds
 
+-- the forms that a compound of one argument can have, each with its name
 pub data UnaryCase (ops : Table) (f : Name) : Form → Type 0 where
   in_braces : f ≡ codes "{}" → UnaryCase ops f Braces
   prefixed : {o : Op} → names_eq f (codes "{}") ≡ false → ops.prefixes f ≡ Some o → UnaryCase ops f (Prefix o)
   called : names_eq f (codes "{}") ≡ false → UnaryCase ops f Plain
 
+-- a compound of one argument has one of them
 pub unary_case : (ops : Table) (f : Name) → UnaryCase ops f (unary_form f (ops.prefixes f))
 unary_case ops f = go (ops.prefixes f) refl (names_eq f (codes "{}")) refl
   where
@@ -28,11 +30,13 @@ unary_case ops f = go (ops.prefixes f) refl (names_eq f (codes "{}")) refl
     go (Some o) is true e = subst (λ b. UnaryCase ops f (cond b Braces (Prefix o))) (sym e) (in_braces (names_eq-true f (codes "{}") e))
     go (Some o) is false e = subst (λ b. UnaryCase ops f (cond b Braces (Prefix o))) (sym e) (prefixed e is)
 
+-- the forms that a compound of two arguments can have, each with its name
 pub data BinaryCase (ops : Table) (f : Name) : Form → Type 0 where
   listed : f ≡ codes "." → BinaryCase ops f Listed
   infixed : {o : Op} → ops.infixes f ≡ Some o → BinaryCase ops f (Infix o)
   called_with_two : BinaryCase ops f Plain
 
+-- a compound of two arguments has one of them
 pub binary_case : (ops : Table) (f : Name) → BinaryCase ops f (binary_form f (ops.infixes f))
 binary_case ops f = go (ops.infixes f) refl (names_eq f (codes ".")) refl
   where
@@ -113,6 +117,7 @@ mutual
   back_all ops tab at NoMore h = tt
   back_all ops tab at (More t ts) h = (back ops tab at t h.0, back_all ops tab at ts h.1)
 
+-- the tokens of a readable term with an end behind it are read as its tree
 pub reads_tree : (at : Places) (t : Term) → IsReadable t → depth start_table 1200 t ≤ 1000 →
     (q : ℕ) × Reads start_table 1000 1200 (laid at (clause_pieces start_table t)) (tree_of t) q (laid at (end ∷ []))
 unfolding depth

@@ -11,8 +11,8 @@ use Rattle.tp_terms.proofs.ShownLemmas.{shows-cell, AreNamed-cell}
 use Rattle.tp_write.specs.declared.pieces.End.{End}
 use Rattle.tp_write.specs.Under.{under}
 use Rattle.tp_write.specs.Work.{cell_term, next_of, Ends}
-use Rattle.tp_write.proofs.TimesLemmas.{times, times-each, times-bound, Follows}
-use Rattle.tp_write.proofs.UnderLemmas.{under-free, under-bound, under-other, under-compound}
+use Rattle.tp_write.proofs.BindingsEnd.Times.{times, times-each, times-bound, Follows}
+use Rattle.tp_write.proofs.BindingsEnd.Under.{under-free, under-bound, under-other, under-compound}
 
 -- a bound variable stands for what its place shows, wrapped in one more compound
 abbrev wrapped_at : List Cell → ℕ → Option Ref → Term
@@ -102,12 +102,14 @@ module _ (bindings : Bindings) (cells : List Cell) (fits : Fits bindings cells) 
   reach-step (cell.Atom name) d next e at before = absurd (cc)
   reach-step (cell.Comp name first count) d next e at before = absurd (cc)
 
+  -- a bound variable's place shows the same under the bindings as the place that it leads to
   pub under-step : (at place : ℕ) (c : Cell) (next : Ref) → slice_get cells place ≡ Some c → Some next ≡ next_of bindings c → ((names : List Name) → under names bindings cells at ≡ under names bindings cells place) → (names : List Name) → under names bindings cells at ≡ under names bindings cells next.at
   under-step at place (cell.Var v) next stands e same = goes_on at place v next stands (sym e) same
   under-step at place (cell.Int value) next stands e same = absurd (cc)
   under-step at place (cell.Atom name) next stands e same = absurd (cc)
   under-step at place (cell.Comp name first count) next stands e same = absurd (cc)
 
+  -- a place whose cell leads no further is the end of the chain
   pub ends-at : (at : ℕ) (place : Ref) (c : Cell) → slice_get cells place.at ≡ Some c → StandsBefore place.at c → None ≡ next_of bindings c → ((names : List Name) → under names bindings cells at ≡ under names bindings cells place.at) → Ends bindings cells at (record { place = place; cell = c })
   ends-at at place c stands before e same =
       ends-here at (record { place = place; cell = c }) stands before (λ v is. sym (e ∙ ap (next_of bindings) is)) same

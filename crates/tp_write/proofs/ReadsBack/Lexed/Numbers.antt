@@ -16,9 +16,9 @@ use Rattle.tp_lex.specs.Integers.{after_zero, integer}
 use Rattle.tp_lex.specs.Form.{largest, form, name_of, value_of, number_value, integer_form}
 use Rattle.tp_lex.specs.declared.token.TokenKind.TheVariants as kind
 use Rattle.tp_lex.proofs.DigitLemmas.{pair_of, same_pair}
-use Rattle.tp_write.proofs.WrittenPieces.{Stand, Piece, variable, number}
-use Rattle.tp_write.proofs.CharactersLexBackLemmas.{begins_calm, calm_of, run_ends, begins_gap, no_gap, no_name_start}
-use Rattle.tp_write.proofs.WordsLexBackLemmas.{Forms, form_variable, form_digit, variable_spelled}
+use Rattle.tp_write.proofs.ReadsBack.Pieces.{Stand, Piece, variable, number}
+use Rattle.tp_write.proofs.ReadsBack.Lexed.Characters.{begins_calm, calm_of, run_ends, begins_gap, no_gap, no_name_start}
+use Rattle.tp_write.proofs.ReadsBack.Lexed.Words.{Forms, form_variable, form_digit, variable_spelled}
 
 -- ---- digits
 
@@ -68,11 +68,13 @@ digits_scalars (d ∷ ds) a = and_from (scalar d) (all_scalars ds) (digit_of d a
 pub decimal_digits : (n : ℕ) → n < 2 ^ 64 → AllDigits 10 (decimal n)
 decimal_digits n l = (decimal_is_IsNumeral n l).0.1
 
+-- digits are characters
 pub decimal_scalars : (n : ℕ) → n < 2 ^ 64 → all_scalars (decimal n) ≡ true
 decimal_scalars n l = digits_scalars (decimal n) (decimal_digits n l)
 
 -- ---- variables
 
+-- a variable's characters are lexed as the variable
 pub variable_forms : (s : Stand) (v : ℕ) (rest : List ℕ) → v < 2 ^ 64 → begins_calm rest ≡ true → Forms (variable s v) rest
 unfolding value_of
 variable_forms s v rest l e =
@@ -145,6 +147,7 @@ numeral_forms s n (d ∷ ds) rest a l m i =
       gapless = no_gap d (ds ++ rest) facts.gap;
     }
 
+-- a number's digits are lexed as the integer
 pub number_forms : (s : Stand) (n : ℕ) (rest : List ℕ) → n ≤ 2 ^ 63 → begins_calm rest ≡ true → Forms (number s n) rest
 number_forms s n rest l e =
     let fits : n < 2 ^ 64 = omega arith in
@@ -158,6 +161,7 @@ pub record IsNumber (n : ℕ) : Type 0 where
   pub parts : decimal n ≡ first ∷ others
   pub graphic : is_graphic first ≡ false
 
+-- a number has a first digit
 pub number_first : (n : ℕ) → n < 2 ^ 64 → IsNumber n
 number_first n l = let d = decimal_is_IsNumeral n l in by (decimal n) refl d.0.1 d.0.0
   where
