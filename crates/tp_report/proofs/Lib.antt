@@ -1,5 +1,4 @@
-pub mod AddedLemmas
-pub mod EndLemmas
-pub mod SceneLemmas
-pub mod DoerLemmas
-pub mod WorldLemmas
+pub mod Parts
+pub mod AnswerLines
+pub mod LastLine
+pub mod WorldLines

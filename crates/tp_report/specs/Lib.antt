@@ -1,7 +1,6 @@
-pub mod Added
 pub mod Report
 pub mod Seen
+pub mod Lines
 pub mod Pieces
 pub mod End
-pub mod Doer
 pub mod Worlds

@@ -1,15 +1,15 @@
 //! The lines of an answer.
 
-ghost use Rattle.std.specs.Prelude.{◌≡◌, ◌<◌, ◌++◌, length, chars, string_bytes, OnOk, OnErr};
+ghost use Rattle.std.specs.Prelude.{◌≡◌, ◌<◌, length};
 ghost use Rattle.std.specs.List.{AllByRecursion};
 ghost use Rattle.tp_terms.specs.Shown.{AreNamed};
 ghost use Rattle.tp_terms.specs.Binds.{Fits};
-ghost use Rattle.tp_meaning.specs.World.{World};
-ghost use Rattle.tp_parse.specs.Ops.{table_of};
-ghost use Rattle.tp_report.specs.Added.{AddsPrefix};
-ghost use Rattle.tp_report.specs.Report.{number_line, clock_line, answer_lines, world_answer_text};
+ghost use Rattle.tp_terms.specs.Added.{Adds};
 ghost use Rattle.tp_terms.specs.Events.{EventStands};
-ghost use Rattle.tp_report.specs.Seen.{answer_under};
+ghost use Rattle.tp_meaning.specs.World.{World};
+ghost use Rattle.tp_report.specs.Lines.{lines_seen};
+ghost use Rattle.tp_report.specs.Report.{number_line, clock_line, world_answer_text};
+ghost use Rattle.tp_report.specs.Seen.{seen_in};
 ghost use Rattle.tp_report.specs.Worlds.{StandsFor};
 
 use crate::pieces::{Piece, add_pieces};
@@ -19,11 +19,12 @@ use tp_history::Events;
 use tp_parse::Ops;
 use tp_terms::{AtomId, Atoms, Binds, Cells, Named, NoMemory};
 
-/// Adds the lines of an answer, as docs/REPORT.md has them: its number, from 1; the named variables of the goal with their
-/// terms; the events; and the clock, in units of simulated time, with the steps of the search so far.
+/// Adds the lines of an answer, as docs/REPORT.md has them: its number, from 1; the named variables
+/// of the goal with their terms; the events; and the clock, in units of simulated time, with the
+/// steps of the search so far.
 ///
-/// `names` has the names of the processes by their numbers. The terms are those that `cells` show with all of `binds`
-/// followed.
+/// `names` has the names of the processes by their numbers. The terms are those that `cells` show
+/// with all of `binds` followed.
 ///
 /// # Errors
 /// `NoMemory` where memory was refused; then a prefix of the lines was added.
@@ -45,15 +46,18 @@ pub fn answer_text<B: Binds>(
     requires fits { Fits (B.bindings binds.now) cells.now.items }
     requires named_cells { AreNamed (length atoms.now) cells.now.items }
     requires named_processes { AllByRecursion (λ a. a.at < length atoms.now) names.now }
-    requires events { AllByRecursion (EventStands (length atoms.now) (length cells.now.items) (length names.now)) events.now }
-    ensures text { let lines = answer_lines (table_of ops.now) (answer_under atoms.now (B.bindings binds.now) cells.now.items names.now number named.now events.now clock steps) in
-        OnOk result (chars (string_bytes out.new) ≡ chars (string_bytes out.old) ++ lines) }
-    ensures prefix { let lines = answer_lines (table_of ops.now) (answer_under atoms.now (B.bindings binds.now) cells.now.items names.now number named.now events.now clock steps) in
-        OnErr result (AddsPrefix (chars (string_bytes out.old)) (chars (string_bytes out.new)) lines) }
+    requires events { AllByRecursion
+        (EventStands (length atoms.now) (length cells.now.items) (length names.now)) events.now }
+    ensures added { let s =
+        seen_in atoms.now (B.bindings binds.now) cells.now.items names.now ops.now in
+        Adds out.old out.new result (lines_seen s number named.now events.now clock steps) }
 
     // The lines are those of each world that the cells and bindings stand for.
-    ensures world { (w : World) → StandsFor atoms.now (B.bindings binds.now) cells.now.items names.now events.now clock w →
-        answer_lines (table_of ops.now) (answer_under atoms.now (B.bindings binds.now) cells.now.items names.now number named.now events.now clock steps) ≡ world_answer_text (table_of ops.now) named.now number w steps }
+    ensures world { let s =
+        seen_in atoms.now (B.bindings binds.now) cells.now.items names.now ops.now in
+        (w : World) → StandsFor s events.now clock w →
+        lines_seen s number named.now events.now clock steps
+        ≡ world_answer_text s.ops named.now number w steps }
 {
     let scene = Scene {
         alloc,
@@ -71,8 +75,7 @@ pub fn answer_text<B: Binds>(
 
 /// Adds the first line of an answer.
 fn add_number(number: u64, out: &mut String) -> Result<(), NoMemory>
-    ensures text { OnOk result (chars (string_bytes out.new) ≡ chars (string_bytes out.old) ++ number_line number) }
-    ensures prefix { OnErr result (AddsPrefix (chars (string_bytes out.old)) (chars (string_bytes out.new)) (number_line number)) }
+    ensures added { Adds out.old out.new result (number_line number) }
 {
     add_pieces(
         &[
@@ -86,8 +89,7 @@ fn add_number(number: u64, out: &mut String) -> Result<(), NoMemory>
 
 /// Adds the last line of an answer.
 fn add_clock(clock: i64, steps: u64, out: &mut String) -> Result<(), NoMemory>
-    ensures text { OnOk result (chars (string_bytes out.new) ≡ chars (string_bytes out.old) ++ clock_line clock steps) }
-    ensures prefix { OnErr result (AddsPrefix (chars (string_bytes out.old)) (chars (string_bytes out.new)) (clock_line clock steps)) }
+    ensures added { Adds out.old out.new result (clock_line clock steps) }
 {
     add_pieces(
         &[

@@ -1,9 +1,8 @@
 //! The last line of a run.
 
-ghost use Rattle.std.specs.Prelude.{◌≡◌, ◌++◌, chars, string_bytes, OnOk, OnErr};
-ghost use Rattle.tp_report.specs.Added.{AddsPrefix};
-ghost use Rattle.tp_report.specs.Report.{line};
-ghost use Rattle.tp_report.specs.End.{after_text, counts_text, raised_line, last_line};
+ghost use Rattle.std.specs.Prelude.{chars};
+ghost use Rattle.tp_terms.specs.Added.{Adds};
+ghost use Rattle.tp_report.specs.End.{ended_line, searched_line, raised_line, last_line};
 
 use crate::pieces::{Piece, add_pieces};
 use tp_terms::{NoMemory, Text};
@@ -13,7 +12,8 @@ use tp_terms::{NoMemory, Text};
 pub enum EndLine {
     /// As many answers as were wanted were found.
     Stopped,
-    /// There are no answers beside those that were found. The counts are of the dead ends, by their causes.
+    /// There are no answers beside those that were found. The counts are of the dead ends, by their
+    /// causes.
     NoMore {
         /// Steps that failed.
         failed: u64,
@@ -44,8 +44,7 @@ pub enum EndLine {
 
 /// Adds the line of a run that ended in this way.
 fn add_end(how: &str, steps: u64, out: &mut String) -> Result<(), NoMemory>
-    ensures text { OnOk result (chars (string_bytes out.new) ≡ chars (string_bytes out.old) ++ line (chars how.now ++ after_text steps)) }
-    ensures prefix { OnErr result (AddsPrefix (chars (string_bytes out.old)) (chars (string_bytes out.new)) (line (chars how.now ++ after_text steps))) }
+    ensures added { Adds out.old out.new result (ended_line (chars how.now) steps) }
 {
     add_pieces(
         &[
@@ -67,8 +66,8 @@ fn add_counts(
     late: u64,
     out: &mut String,
 ) -> Result<(), NoMemory>
-    ensures text { OnOk result (chars (string_bytes out.new) ≡ chars (string_bytes out.old) ++ line (chars how.now ++ (after_text steps ++ counts_text failed deadlock late))) }
-    ensures prefix { OnErr result (AddsPrefix (chars (string_bytes out.old)) (chars (string_bytes out.new)) (line (chars how.now ++ (after_text steps ++ counts_text failed deadlock late)))) }
+    ensures added { Adds out.old out.new result
+        (searched_line (chars how.now) steps failed deadlock late) }
 {
     add_pieces(
         &[
@@ -89,8 +88,7 @@ fn add_counts(
 
 /// Adds the line of a run that ended with an error, whose term is written like this.
 fn add_raised(term: &Text, clock: i64, steps: u64, out: &mut String) -> Result<(), NoMemory>
-    ensures text { OnOk result (chars (string_bytes out.new) ≡ chars (string_bytes out.old) ++ raised_line term.now clock steps) }
-    ensures prefix { OnErr result (AddsPrefix (chars (string_bytes out.old)) (chars (string_bytes out.new)) (raised_line term.now clock steps)) }
+    ensures added { Adds out.old out.new result (raised_line term.now clock steps) }
 {
     add_pieces(
         &[
@@ -111,8 +109,7 @@ fn add_raised(term: &Text, clock: i64, steps: u64, out: &mut String) -> Result<(
 /// # Errors
 /// `NoMemory` where memory was refused; then a prefix of the line was added.
 pub fn end_text(end: &EndLine, steps: u64, out: &mut String) -> Result<(), NoMemory>
-    ensures text { OnOk result (chars (string_bytes out.new) ≡ chars (string_bytes out.old) ++ last_line end.now steps) }
-    ensures prefix { OnErr result (AddsPrefix (chars (string_bytes out.old)) (chars (string_bytes out.new)) (last_line end.now steps)) }
+    ensures added { Adds out.old out.new result (last_line end.now steps) }
 {
     match end {
         EndLine::Stopped => add_end("stopped", steps, out),

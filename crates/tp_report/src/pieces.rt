@@ -1,12 +1,11 @@
 //! The pieces of a line.
 
-ghost use Rattle.std.specs.Prelude.{◌≡◌, ◌++◌, chars, string_bytes, OnOk, OnErr};
-ghost use Rattle.tp_report.specs.Added.{AddsPrefix};
+ghost use Rattle.tp_terms.specs.Added.{Adds};
 ghost use Rattle.tp_report.specs.Pieces.{piece_text, pieces_text};
 
 use crate::doer::add_doer;
 use itoa::Buffer;
-use tp_terms::NoMemory;
+use tp_terms::{NoMemory, push_text};
 use tp_write::write_name;
 
 /// A piece of a line.
@@ -24,40 +23,28 @@ pub enum Piece<'a> {
     Doer(&'a str),
 }
 
-/// Adds these characters.
-pub fn add_text(text: &str, out: &mut String) -> Result<(), NoMemory>
-    ensures text { OnOk result (chars (string_bytes out.new) ≡ chars (string_bytes out.old) ++ chars text.now) }
-    ensures prefix { OnErr result (AddsPrefix (chars (string_bytes out.old)) (chars (string_bytes out.new)) (chars text.now)) }
-{
-    out.push_str(text)?;
-    Ok(())
-}
-
 /// Adds a count.
 fn add_count(count: u64, out: &mut String) -> Result<(), NoMemory>
-    ensures text { OnOk result (chars (string_bytes out.new) ≡ chars (string_bytes out.old) ++ piece_text (Piece.Count count)) }
-    ensures prefix { OnErr result (AddsPrefix (chars (string_bytes out.old)) (chars (string_bytes out.new)) (piece_text (Piece.Count count))) }
+    ensures added { Adds out.old out.new result (piece_text (Piece.Count count)) }
 {
     let mut buffer = Buffer::new();
-    add_text(buffer.format(count), out)
+    push_text(buffer.format(count), out)
 }
 
 /// Adds an integer.
 fn add_integer(value: i64, out: &mut String) -> Result<(), NoMemory>
-    ensures text { OnOk result (chars (string_bytes out.new) ≡ chars (string_bytes out.old) ++ piece_text (Piece.Integer value)) }
-    ensures prefix { OnErr result (AddsPrefix (chars (string_bytes out.old)) (chars (string_bytes out.new)) (piece_text (Piece.Integer value))) }
+    ensures added { Adds out.old out.new result (piece_text (Piece.Integer value)) }
 {
     let mut buffer = Buffer::new();
-    add_text(buffer.format(value), out)
+    push_text(buffer.format(value), out)
 }
 
 /// Adds a piece.
 fn add_piece(piece: &Piece<'_>, out: &mut String) -> Result<(), NoMemory>
-    ensures text { OnOk result (chars (string_bytes out.new) ≡ chars (string_bytes out.old) ++ piece_text piece.now) }
-    ensures prefix { OnErr result (AddsPrefix (chars (string_bytes out.old)) (chars (string_bytes out.new)) (piece_text piece.now)) }
+    ensures added { Adds out.old out.new result (piece_text piece.now) }
 {
     match piece {
-        Piece::Text(text) => add_text(text, out),
+        Piece::Text(text) => push_text(text, out),
         Piece::Count(count) => add_count(*count, out),
         Piece::Integer(value) => add_integer(*value, out),
         Piece::Name(name) => write_name(name, out),
@@ -67,8 +54,7 @@ fn add_piece(piece: &Piece<'_>, out: &mut String) -> Result<(), NoMemory>
 
 /// Adds pieces one behind the other.
 pub fn add_pieces(pieces: &[Piece<'_>], out: &mut String) -> Result<(), NoMemory>
-    ensures text { OnOk result (chars (string_bytes out.new) ≡ chars (string_bytes out.old) ++ pieces_text pieces.now) }
-    ensures prefix { OnErr result (AddsPrefix (chars (string_bytes out.old)) (chars (string_bytes out.new)) (pieces_text pieces.now)) }
+    ensures added { Adds out.old out.new result (pieces_text pieces.now) }
 {
     for piece in pieces {
         add_piece(piece, out)?;

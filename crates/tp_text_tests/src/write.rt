@@ -8,7 +8,7 @@ use std::test::Fail;
 use tp_parse::{OpFault, Ops};
 use tp_terms::symbols::{CALL, EMPTY_LIST, LIST_CELL};
 use tp_terms::{AtomId, Atoms, Cell, Cells, NoBinds, NoMemory, Ref};
-use tp_write::{write_name, write_term};
+use tp_write::{write_name, write_quoted, write_term};
 
 #[test]
 fn names(rt: HostRuntime) -> Result<(), Fail> {
@@ -45,6 +45,10 @@ fn names(rt: HostRuntime) -> Result<(), Fail> {
         write_name(name, &mut out)?;
         assert_eq!(rt; out.as_str(), wanted, "at {name}");
     }
+    let mut out = String::new(rt.alloc());
+    write_quoted("it's", &mut out)?;
+    write_quoted("hello", &mut out)?;
+    assert_eq!(rt; out.as_str(), "'it\\'s''hello'");
     Ok(())
 }
 

@@ -24,10 +24,10 @@ use Rattle.tp_store.proofs.StoreLemmas.{value-bound, value-unbound}
 use Rattle.tp_parse.specs.Ops.{Entries, table_of}
 use Rattle.tp_write.specs.Text.{text}
 use Rattle.tp_write.specs.Under.{under}
-use Rattle.tp_write.proofs.UnderLemmas.{under-agrees}
+use Rattle.tp_write.proofs.BindingsEnd.Under.{under-agrees}
 use Rattle.tp_terms.specs.Events.{EventStands}
 use Rattle.tp_report.specs.Report.{world_answer_text}
-use Rattle.tp_report.specs.Seen.{kind_seen, event_seen, process_names}
+use Rattle.tp_report.specs.Seen.{kind_by, event_by, process_names, seen_in as in_scene}
 use Rattle.tp_report.specs.Worlds.{StandsFor}
 use Rattle.tp_engine.specs.Answers.{answer_in}
 use Rattle.tp_engine.specs.Plain.{Plain, event_of, items_of, kind_of, process_of, with_running}
@@ -42,7 +42,7 @@ under-seen names c store fits at =
 
 -- ---- events
 
-kind-seen : (names : List Name) (c : Contents) (k : EventKind) → kind_of names c k ≡ kind_seen names (λ at. apply (subst_of names c) (shows names c.cells at)) k
+kind-seen : (names : List Name) (c : Contents) (k : EventKind) → kind_of names c k ≡ kind_by names (λ at. apply (subst_of names c) (shows names c.cells at)) k
 kind-seen names c (kind.New name start end) = refl
 kind-seen names c kind.Start = refl
 kind-seen names c (kind.Hold duration) = refl
@@ -51,11 +51,11 @@ kind-seen names c (kind.Take message) = refl
 kind-seen names c (kind.Note term) = refl
 kind-seen names c kind.End = refl
 
-events-seen : (names : List Name) (c : Contents) (es : List Event) → map (event_of names c) es ≡ map (event_seen names (λ at. apply (subst_of names c) (shows names c.cells at))) es
+events-seen : (names : List Name) (c : Contents) (es : List Event) → map (event_of names c) es ≡ map (event_by names (λ at. apply (subst_of names c) (shows names c.cells at))) es
 events-seen names c [] = refl
 events-seen names c (e ∷ es) =
     ap (λ k. record { time = e.time; process = e.pid; kind = k } ∷ map (event_of names c) es) (kind-seen names c e.kind)
-    ∙ ap (λ more. event_seen names (λ at. apply (subst_of names c) (shows names c.cells at)) e ∷ more) (events-seen names c es)
+    ∙ ap (λ more. event_by names (λ at. apply (subst_of names c) (shows names c.cells at)) e ∷ more) (events-seen names c es)
 
 -- ---- processes
 
@@ -93,8 +93,8 @@ events-stand s table cells processes events sound t ce same ev =
     sound.events)))
 
 -- the world of an engine is what its cells and bindings stand for
-pub stands-for : (s : Snapshot) (processes : List AtomId) → IsSound s → AreProcesses s processes → StandsFor s.names s.plain.store.pairs s.plain.store.cells processes s.plain.events s.plain.clock (world_in s)
-stands-for s processes sound same = record {
+pub stands-for : (s : Snapshot) (processes : List AtomId) (ops : Entries) → IsSound s → AreProcesses s processes → StandsFor (in_scene s.names s.plain.store.pairs s.plain.store.cells processes ops) s.plain.events s.plain.clock (world_in s)
+stands-for s processes ops sound same = record {
   bound = λ v place e. value-bound s.names s.plain.store v place sound.store e;
   unbound = λ v e. value-unbound s.names s.plain.store v sound.store e;
   history = events-seen s.names s.plain.store s.plain.events;
@@ -105,16 +105,16 @@ stands-for s processes sound same = record {
 }
 
 -- the lines of an answer are those of the engine's world
-pub answer-shown : (s : Snapshot) (ops : Entries) (table : List Name) (store : Contents) (cells : List Cell) (processes : List AtomId) (events : List Event) (clock : ℤ) (number steps : ℕ) (named : List Named) (lines : List ℕ) → IsSound s → table ≡ s.names → store ≡ s.plain.store → cells ≡ s.plain.store.cells → AreProcesses s processes → events ≡ s.plain.events → clock ≡ s.plain.clock → number ≡ s.number → steps ≡ s.steps → named ≡ s.named → ops ≡ s.ops → ((w : World) → StandsFor table store.pairs cells processes events clock w → lines ≡ world_answer_text (table_of ops) named number w steps) → lines ≡ shown (answer_in s)
+pub answer-shown : (s : Snapshot) (ops : Entries) (table : List Name) (store : Contents) (cells : List Cell) (processes : List AtomId) (events : List Event) (clock : ℤ) (number steps : ℕ) (named : List Named) (lines : List ℕ) → IsSound s → table ≡ s.names → store ≡ s.plain.store → cells ≡ s.plain.store.cells → AreProcesses s processes → events ≡ s.plain.events → clock ≡ s.plain.clock → number ≡ s.number → steps ≡ s.steps → named ≡ s.named → ops ≡ s.ops → ((w : World) → StandsFor (in_scene table store.pairs cells processes ops) events clock w → lines ≡ world_answer_text (table_of ops) named number w steps) → lines ≡ shown (answer_in s)
 answer-shown s ops table store cells processes events clock number steps named lines sound t st ce same ev cl nu sp na op told =
     let w = world_in s in
     told w
-    (subst (λ x. StandsFor x store.pairs cells processes events clock w) (sym t)
-    (subst (λ (x : Contents). StandsFor s.names x.pairs cells processes events clock w) (sym st)
-    (subst (λ x. StandsFor s.names s.plain.store.pairs x processes events clock w) (sym ce)
-    (subst (λ x. StandsFor s.names s.plain.store.pairs s.plain.store.cells processes x clock w) (sym ev)
-    (subst (λ x. StandsFor s.names s.plain.store.pairs s.plain.store.cells processes s.plain.events x w) (sym cl)
-    (stands-for s processes sound same))))))
+    (subst (λ x. StandsFor (in_scene x store.pairs cells processes ops) events clock w) (sym t)
+    (subst (λ (x : Contents). StandsFor (in_scene s.names x.pairs cells processes ops) events clock w) (sym st)
+    (subst (λ x. StandsFor (in_scene s.names s.plain.store.pairs x processes ops) events clock w) (sym ce)
+    (subst (λ x. StandsFor (in_scene s.names s.plain.store.pairs s.plain.store.cells processes ops) x clock w) (sym ev)
+    (subst (λ x. StandsFor (in_scene s.names s.plain.store.pairs s.plain.store.cells processes ops) s.plain.events x w) (sym cl)
+    (stands-for s processes ops sound same))))))
     ∙ ap (λ x. world_answer_text (table_of x) named number w steps) op
     ∙ ap (λ x. world_answer_text (table_of s.ops) x number w steps) na
     ∙ ap (λ x. world_answer_text (table_of s.ops) s.named x w steps) nu

@@ -25,8 +25,8 @@ number_of Memory = 9
 abbrev pub words_of : List (String Global) → List (List ℕ)
 words_of = map (λ word. string_bytes word)
 
--- What a run is about: what the shelf tells, the words, the counts of faults of reading and of writing before and after,
--- and what the sink tells before and after.
+-- What a run is about: what the shelf tells, the words, the counts of faults of reading and of
+-- writing before and after, and what the sink tells before and after.
 pub record Run : Type 0 where
   pub held : Option Files
   pub words : List (List ℕ)
@@ -43,7 +43,8 @@ abbrev pub OfUsage : Option Request → (Option Answer → Type 0) → Type 0
 OfUsage None P = P (Some usage)
 OfUsage (Some r) P = Unit {0}
 
--- what holds of the expected answer, where it is known: the shelf tells, or the words are no request
+-- what holds of the expected answer, where it is known: the shelf tells, or the words are no
+-- request
 abbrev pub OfExpected : List (List ℕ) → Option Files → (Option Answer → Type 0) → Type 0
 OfExpected words None P = OfUsage (request words) P
 OfExpected words (Some files) P = P (expected words files)
@@ -58,7 +59,8 @@ IsPlain _ = Unit {0}
 -- the count of faults rose or, where the shelf tells, the name isn't held
 abbrev pub CouldFail : Option Files → List ℕ → ℕ → ℕ → Type 0
 CouldFail None name before after = Rose before after
-CouldFail (Some files) name before after = MatchOption (held_under files name) (Unit {0}) (λ _. Rose before after)
+CouldFail (Some files) name before after =
+    MatchOption (held_under files name) (Unit {0}) (λ _. Rose before after)
 
 -- the words are a request whose model couldn't be read
 abbrev pub IsReadFault : Option Request → Option Files → ℕ → ℕ → Type 0
@@ -119,17 +121,18 @@ GaveAll run status (Some answer) = GaveAnswer run status answer
 
 -- A run ends with a status:
 pub record Ended (run : Run) (status : Status) : Type 0 where
-  -- Where it is no read fault, write fault or want of memory, an answer is expected, and it was given, whole.
+  -- Where it is no read fault, write fault or want of memory, an answer is expected, and it was
+  -- given, whole.
   pub plain : IsPlain status → OfExpected run.words run.held (GaveExpected run status)
-  -- Where it is a read fault, the words are a request, the count of faults of reading rose or the model isn't held, and
-  -- the line of a read fault was written.
+  -- Where it is a read fault, the words are a request, the count of faults of reading rose or the
+  -- model isn't held, and the line of a read fault was written.
   pub read : status ≡ Read → CouldNotRead run × Wrote run read_fault
   -- Where it is a write fault, the count of faults of writing rose, and a prefix was written.
   pub write : status ≡ Write → Rose run.writes_before run.writes_after × IsCutShort run
   -- Where memory was refused, the model was read without a fault, and a prefix was written.
   pub memory : status ≡ Memory → ReadModel run × IsCutShort run
-  -- Where no count of faults rose, the expected answer was given, whole, or the line of a read fault where none is
-  -- expected, or memory was refused.
+  -- Where no count of faults rose, the expected answer was given, whole, or the line of a read
+  -- fault where none is expected, or memory was refused.
   pub complete :
       ¬ Rose run.reads_before run.reads_after → ¬ Rose run.writes_before run.writes_after →
       OfExpected run.words run.held (λ answer. GaveAll run status answer ⊎ (status ≡ Memory))

@@ -29,7 +29,10 @@ pub record Request : Type 0 where
 
 -- a request has two words of which neither begins with a dash
 abbrev pub request : List (List ℕ) → Option Request
-request (model ∷ goal ∷ []) = if is_plain model && is_plain goal then Some (record { model = model; goal = goal }) else None
+request (model ∷ goal ∷ []) =
+    if is_plain model && is_plain goal
+    then Some (record { model = model; goal = goal })
+    else None
 request _ = None
 
 -- ---- refusals
@@ -63,11 +66,24 @@ cause_word cause.Grammar = codes "Grammar"
 cause_word cause.Directive = codes "Directive"
 cause_word cause.Many = codes "Many"
 
+-- a clause of the model was refused, from this byte of it on
 abbrev pub model_refused : Refusal → Answer
-model_refused r = (status.Model, line (codes "model refused: clause " ++ (decimal r.clause ++ (codes " byte " ++ (decimal r.byte ++ (codes " cause " ++ cause_word r.cause))))))
+model_refused r = (
+  status.Model,
+  line (codes "model refused: clause "
+      ++ (decimal r.clause
+      ++ (codes " byte "
+      ++ (decimal r.byte
+      ++ (codes " cause "
+      ++ cause_word r.cause))))),
+)
 
+-- the goal was refused, from this byte on
 abbrev pub goal_refused : goal.Refusal → Answer
-goal_refused r = (status.Goal, line (codes "goal refused: byte " ++ (decimal r.0 ++ (codes " cause " ++ cause_word r.1))))
+goal_refused r = (
+  status.Goal,
+  line (codes "goal refused: byte " ++ (decimal r.0 ++ (codes " cause " ++ cause_word r.1))),
+)
 
 -- ---- the answer
 

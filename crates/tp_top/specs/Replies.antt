@@ -16,5 +16,12 @@ bytes_of (Made text) = string_bytes text
 abbrev pub view_of : Reply → Answer
 view_of reply = (reply.status, bytes_of reply.text)
 
+-- the counts of a search that ended
 abbrev pub counts_in : Ended → Counts
-counts_in e = record { steps = e.steps; found = e.found; failed = e.failed; deadlock = e.deadlock; late = e.late }
+counts_in e = record {
+  steps = e.steps;
+  found = e.found;
+  failed = e.failed;
+  deadlock = e.deadlock;
+  late = e.late;
+}

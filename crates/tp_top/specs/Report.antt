@@ -31,12 +31,22 @@ pub record Counts : Type 0 where
   pub deadlock : ℕ
   pub late : ℕ
 
+-- the counts of a search
 abbrev pub counts_of : Outcome World Term → Counts
-counts_of o = record { steps = o.steps; found = length o.answers; failed = o.failed; deadlock = o.deadlock; late = o.late }
+counts_of o = record {
+  steps = o.steps;
+  found = length o.answers;
+  failed = o.failed;
+  deadlock = o.deadlock;
+  late = o.late;
+}
 
 -- the status of a search and its last line; an error's term may have any priority
 abbrev pub end_by : Table → Counts → End World Term → Status × EndLine
-end_by ops c (Fails stamp) = if nat_eq c.found 0 then (status.No, last.No c.failed c.deadlock c.late) else (status.Found, last.NoMore c.failed c.deadlock c.late)
+end_by ops c (Fails stamp) =
+    if nat_eq c.found 0
+    then (status.No, last.No c.failed c.deadlock c.late)
+    else (status.Found, last.NoMore c.failed c.deadlock c.late)
 end_by ops c Stopped = (status.Found, last.Stopped)
 end_by ops c (Raised t w) = (status.Raised, last.Raised (text ops 1200 t) w.clock)
 end_by ops c Budget = (status.Budget, last.Budget)
@@ -49,4 +59,5 @@ with_last text steps end = (end.0, encode_utf8_all (text ++ last_line end.1 step
 
 -- the status of a search, and the lines of all its answers and its last line
 abbrev pub report : Table → List Named → Outcome World Term → Status × List ℕ
-report ops named o = with_last (answers_text ops named 0 o.answers) o.steps (end_by ops (counts_of o) o.how)
+report ops named o =
+    with_last (answers_text ops named 0 o.answers) o.steps (end_by ops (counts_of o) o.how)

@@ -15,11 +15,19 @@ use Rattle.tp_report.specs.Report.{world_answer_text}
 use Rattle.tp_top.specs.declared.lines.Lines.{Lines}
 use Rattle.tp_top.specs.Expected.{Answer, for_found}
 
+-- the model that a store has, by these names
 abbrev pub model_in : List Name → Contents → Model
 model_in names c = record { clauses = base_of names c; table = table_of c.ops }
 
+-- a goal that was read, by these names
 abbrev pub found_in : List Name → ReadTerm → Found
-found_in names t = record { term = goal_term names t; named = map named_of t.named; vars = t.vars; from = t.from; to = t.to }
+found_in names t = record {
+  term = goal_term names t;
+  named = map named_of t.named;
+  vars = t.vars;
+  from = t.from;
+  to = t.to;
+}
 
 -- the answer to a goal that was read, which may have no body
 abbrev pub for_read : Model → Found → Answer

@@ -47,7 +47,8 @@ fn search(alloc: Global, mut engine: Engine<'_>) -> Result<Reply, NoMemory>
 fn answer_read(alloc: Global, base: &Base, atoms: Atoms, goal: &ReadTerm) -> Result<Reply, NoMemory>
     requires base { AreNamed (length atoms) base.now.cells }
     requires goal { GoalFits atoms goal.now }
-    ensures { IfOk result (λ reply. view_of reply ≡ for_read (model_in atoms base.now) (found_in atoms goal.now)) }
+    ensures { IfOk result (λ reply.
+        view_of reply ≡ for_read (model_in atoms base.now) (found_in atoms goal.now)) }
 {
     match Engine::new(alloc, base, atoms, goal) {
         Ok(engine) => search(alloc, engine),

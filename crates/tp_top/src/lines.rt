@@ -1,6 +1,7 @@
 //! The lines of the answers.
 
-ghost use Rattle.std.specs.Prelude.{◌≡◌, ◌++◌, chars, map, string_bytes, IfOk, OnOk};
+ghost use Rattle.std.specs.Prelude.{◌≡◌, map, IfOk};
+ghost use Rattle.tp_terms.specs.Added.{Adds};
 ghost use Rattle.tp_engine.specs.Answers.{answer_in};
 ghost use Rattle.tp_engine.specs.Told.{IsSound};
 ghost use Rattle.tp_top.specs.Told.{shown};
@@ -19,7 +20,8 @@ pub struct Lines {
 
 /// The names of the processes by their numbers.
 fn process_names(alloc: Global, view: &AnswerView<'_>) -> Result<Vec<AtomId>, NoMemory>
-    ensures { IfOk result (λ names. names.items ≡ map (λ process. process.name) view.now.plain.procs) }
+    ensures { IfOk result (λ names.
+        names.items ≡ map (λ process. process.name) view.now.plain.procs) }
 {
     let mut names = Vec::new(alloc);
     'processes: for pid in 0..view.processes() {
@@ -31,7 +33,7 @@ fn process_names(alloc: Global, view: &AnswerView<'_>) -> Result<Vec<AtomId>, No
 /// Adds the lines of the answer that an engine stands at.
 fn add_answer(text: &mut String, view: &AnswerView<'_>) -> Result<(), NoMemory>
     requires { IsSound view.now }
-    ensures { OnOk result (chars (string_bytes text.new) ≡ chars (string_bytes text.old) ++ shown (answer_in view.now)) }
+    ensures added { Adds text.old text.new result (shown (answer_in view.now)) }
 {
     let alloc = *text.allocator();
     let names = process_names(alloc, view)?;

@@ -61,7 +61,8 @@ fn is_plain(word: &str) -> bool
 
 /// The model's name and the goal, where the words are a request.
 fn request_of(words: &[String]) -> Option<(&str, &str)>
-    ensures { option_map (λ r. record { model = r.0.now; goal = r.1.now }) result ≡ request (words_of words.now) }
+    ensures { option_map (λ r. record { model = r.0.now; goal = r.1.now }) result
+        ≡ request (words_of words.now) }
 {
     let [model, goal] = words else {
         return None;
@@ -83,7 +84,8 @@ fn prepare<S: Shelf>(alloc: Global, words: &[String], shelf: &mut S) -> Result<R
     ensures refused { OnErr result (WasRead (request (words_of words.now)) (S.held shelf.old)
         (S.faults shelf.old) (S.faults shelf.new)) }
     ensures reply { IfOk result (λ reply.
-        Prepared (view_of reply) (words_of words.now) (S.held shelf.old) (S.faults shelf.old) (S.faults shelf.new)) }
+        Prepared (view_of reply) (words_of words.now) (S.held shelf.old)
+        (S.faults shelf.old) (S.faults shelf.new)) }
 {
     let Some((model, goal)) = request_of(words) else {
         return Ok(Reply::fixed(Status::Usage, "usage: tprolog MODEL GOAL [options]\n"));
@@ -101,8 +103,9 @@ fn prepare<S: Shelf>(alloc: Global, words: &[String], shelf: &mut S) -> Result<R
 
 /// Does all that the program does with the words behind its name: a model's name and a goal.
 ///
-/// The model is read from the shelf, the goal is searched for one answer with at most 1,000,000 steps, and what was
-/// found, or why there was nothing to find, is written to the sink. Nothing is left for the caller to print.
+/// The model is read from the shelf, the goal is searched for one answer with at most 1,000,000
+/// steps, and what was found, or why there was nothing to find, is written to the sink. Nothing is
+/// left for the caller to print.
 pub fn run<S: Shelf, W: Sink>(
     alloc: Global,
     words: &[String],

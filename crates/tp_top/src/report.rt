@@ -78,7 +78,8 @@ const ANY_PRIORITY: u16 = 1200;
 fn error_text(alloc: Global, view: &AnswerView<'_>, term: Ref) -> Result<Text, NoMemory>
     requires sound { IsSound view.now }
     requires stands { term.at < length view.now.plain.store.cells }
-    ensures { IfOk result (λ written. written ≡ term_text (table_of view.now.ops) 1200 (seen_in view.now term)) }
+    ensures { IfOk result (λ written.
+        written ≡ term_text (table_of view.now.ops) 1200 (seen_in view.now term)) }
 {
     let mut text = String::new(alloc);
     write_term(
@@ -130,7 +131,9 @@ fn end_of_search(
 ) -> Result<(Status, EndLine), NoMemory>
     requires sound { IsSound view.now }
     requires raised { RaisedStands view.now ended.now.how }
-    ensures { IfOk result (λ end. end ≡ end_by (table_of view.now.ops) (counts_in ended.now) (end_of view.now ended.now.how)) }
+    ensures { IfOk result (λ end.
+        end ≡ end_by (table_of view.now.ops) (counts_in ended.now)
+        (end_of view.now ended.now.how)) }
 {
     match ended.how {
         How::NoMore => Ok(no_more(ended)),
@@ -152,7 +155,10 @@ pub fn report(
 ) -> Result<Reply, NoMemory>
     requires sound { IsSound view.now }
     requires raised { RaisedStands view.now ended.now.how }
-    ensures { IfOk result (λ reply. view_of reply ≡ with_last (chars (string_bytes text)) ended.now.steps (end_by (table_of view.now.ops) (counts_in ended.now) (end_of view.now ended.now.how))) }
+    ensures { IfOk result (λ reply.
+        view_of reply ≡ with_last (chars (string_bytes text)) ended.now.steps
+        (end_by (table_of view.now.ops) (counts_in ended.now)
+        (end_of view.now ended.now.how))) }
 {
     let (status, end) = end_of_search(alloc, view, ended)?;
     end_text(&end, ended.steps, &mut text)?;

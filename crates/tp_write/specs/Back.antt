@@ -5,7 +5,7 @@ use Rattle.std.specs.Str.{all_scalars}
 use Rattle.tp_terms.specs.Term.{Name, Term, Terms, Var, Int, Atom, Comp, NoMore, More, names_eq, replaced, count_of}
 use Rattle.tp_parse.specs.Table.{Op, Table, right_bound, start_table}
 use Rattle.tp_parse.specs.Texts.{Found, clause_of}
-use Rattle.tp_write.specs.Text.{Form, Listed, Braces, Infix, Prefix, form_of, priority, operand_closed, left_closed, text}
+use Rattle.tp_write.specs.Text.{Form, Listed, Braces, Infix, Prefix, form_of, priority, operand_closed, left_closed, unary, binary, text}
 
 -- ---- the terms of which the law speaks
 
@@ -22,8 +22,8 @@ pub record NamesCompound (f : Name) (count : ℕ) : Type 0 where
   pub some_argument : 1 ≤ count
   pub most_arguments : count ≤ 255
 
--- Names are made of characters, integers and the numbers of variables are within 64 bits, and each compound has from 1
--- to 255 arguments and a name that it may have.
+-- Names are made of characters, integers and the numbers of variables are within 64 bits, and each
+-- compound has from 1 to 255 arguments and a name that it may have.
 abbrev mutual
   pub IsReadable : Term → Type 0
   IsReadable (Var v) = v < 2 ^ 64
@@ -37,7 +37,8 @@ abbrev mutual
 
 -- ---- the depth of the written form
 
--- the depth of a term's written form without parentheses around it, and of what it adds behind an element of a list
+-- the depth of a term's written form without parentheses around it, and of what it adds behind an
+-- element of a list
 pub record Depths : Type 0 where
   pub alone : ℕ
   pub behind : ℕ
@@ -51,10 +52,11 @@ enclosed_depth false d = d
 abbrev pub depth_within : Table → ℕ → Term → ℕ → ℕ
 depth_within ops max t d = enclosed_depth (nat_lt max (priority ops t)) d
 
--- operands: a right one is one deeper than the term around it
+-- a left operand
 abbrev pub left_depth : Table → Op → Term → ℕ → ℕ
 left_depth ops o t d = enclosed_depth (left_closed ops o t) d
 
+-- a right operand is one deeper than the term around it
 abbrev pub right_depth : Table → Op → Term → ℕ → ℕ
 right_depth ops o t d = enclosed_depth (operand_closed ops (right_bound o) t) d + 1
 
@@ -67,28 +69,44 @@ args_depth ops ts ds = 0
 abbrev pub not_list_depths : Table → Term → ℕ → Depths
 not_list_depths ops t d = record { alone = d; behind = depth_within ops 999 t d }
 
+-- an element of a list and what follows it
 abbrev pub list_depths : Table → Term → ℕ → ℕ → Depths
-list_depths ops h d rest = let inside = max (depth_within ops 999 h d) rest in record { alone = inside + 1; behind = inside }
+list_depths ops h d rest =
+    let inside = max (depth_within ops 999 h d) rest in
+    record { alone = inside + 1; behind = inside }
 
+-- a compound of one argument
 abbrev pub unary_depths : Table → Name → Term → Depths → Form → Depths
-unary_depths ops f a d Braces = not_list_depths ops (Comp f (More a NoMore)) (depth_within ops 1200 a d.alone + 1)
-unary_depths ops f a d (Prefix o) = not_list_depths ops (Comp f (More a NoMore)) (right_depth ops o a d.alone)
-unary_depths ops f a d form = not_list_depths ops (Comp f (More a NoMore)) (args_depth ops (More a NoMore) (d ∷ []) + 1)
+unary_depths ops f a d Braces =
+    not_list_depths ops (unary f a) (depth_within ops 1200 a d.alone + 1)
+unary_depths ops f a d (Prefix o) =
+    not_list_depths ops (unary f a) (right_depth ops o a d.alone)
+unary_depths ops f a d form =
+    not_list_depths ops (unary f a) (args_depth ops (More a NoMore) (d ∷ []) + 1)
 
+-- a compound of two arguments
 abbrev pub binary_depths : Table → Name → Term → Depths → Term → Depths → Form → Depths
 binary_depths ops f a d b e Listed = list_depths ops a d.alone e.behind
-binary_depths ops f a d b e (Infix o) = not_list_depths ops (Comp f (More a (More b NoMore))) (max (left_depth ops o a d.alone) (right_depth ops o b e.alone))
-binary_depths ops f a d b e form = not_list_depths ops (Comp f (More a (More b NoMore))) (args_depth ops (More a (More b NoMore)) (d ∷ e ∷ []) + 1)
+binary_depths ops f a d b e (Infix o) =
+    let inside = max (left_depth ops o a d.alone) (right_depth ops o b e.alone) in
+    not_list_depths ops (binary f a b) inside
+binary_depths ops f a d b e form =
+    let inside = args_depth ops (More a (More b NoMore)) (d ∷ e ∷ []) in
+    not_list_depths ops (binary f a b) (inside + 1)
 
+-- a compound, whose arguments' depths are given
 abbrev pub compound_depths : Table → Name → Terms → List Depths → Depths
-compound_depths ops f (More a NoMore) (d ∷ ds) = unary_depths ops f a d (form_of ops (Comp f (More a NoMore)))
-compound_depths ops f (More a (More b NoMore)) (d ∷ e ∷ ds) = binary_depths ops f a d b e (form_of ops (Comp f (More a (More b NoMore))))
+compound_depths ops f (More a NoMore) (d ∷ ds) =
+    unary_depths ops f a d (form_of ops (unary f a))
+compound_depths ops f (More a (More b NoMore)) (d ∷ e ∷ ds) =
+    binary_depths ops f a d b e (form_of ops (binary f a b))
 compound_depths ops f ts ds = not_list_depths ops (Comp f ts) (args_depth ops ts ds + 1)
 
--- the empty list adds nothing behind an element
+-- an atom; the empty list adds nothing behind an element
 abbrev pub atom_depths : Name → Depths
 atom_depths a = record { alone = 1; behind = if names_eq a (codes "[]") then 0 else 1 }
 
+-- the depths of a term, and those of each argument
 unfoldable mutual
   pub depths : Table → Term → Depths
   depths ops (Var v) = not_list_depths ops (Var v) 1
@@ -141,7 +159,8 @@ renumbered t = replaced (λ v. Var (place_in v (first_occurrences (variables t))
 abbrev pub written_clause : Term → List ℕ
 written_clause t = encode_utf8_all (text start_table 1200 t ++ codes " .\n")
 
--- the bytes are read as the term with its variables renumbered, from the first byte on, up to the byte after the dot
+-- the bytes are read as the term with its variables renumbered, from the first byte on, up to the
+-- byte after the dot
 pub record ReadsAs (t : Term) : Type 0 where
   pub found : Found
   pub read : clause_of start_table (written_clause t) 0 ≡ Ok (Some found)
@@ -149,5 +168,6 @@ pub record ReadsAs (t : Term) : Type 0 where
   pub from : found.from ≡ 0
   pub to : found.to ≡ length (encode_utf8_all (text start_table 1200 t ++ codes " ."))
 
+-- every readable term that is at most 1,000 deep reads back
 abbrev pub WrittenReadsBack : Type 0
 WrittenReadsBack = (t : Term) → IsReadable t → depth start_table 1200 t ≤ 1000 → ReadsAs t

@@ -2,6 +2,4 @@ pub mod Back
 pub mod Names
 pub mod Text
 pub mod Under
-pub mod Escaping
-pub mod Progress
 pub mod Work

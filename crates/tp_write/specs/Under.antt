@@ -15,11 +15,14 @@ step_of names cells v (Some place) = shows names cells place.at
 abbrev pub stepped : List Name → Bindings → List Cell → Term → Term
 stepped names bindings cells = replaced (λ v. step_of names cells v (bound_in bindings v))
 
+-- replaced so many times
 unfoldable pub followed : List Name → Bindings → List Cell → ℕ → Term → Term
 followed names bindings cells zero t = t
-followed names bindings cells (suc n) t = followed names bindings cells n (stepped names bindings cells t)
+followed names bindings cells (suc n) t =
+    followed names bindings cells n (stepped names bindings cells t)
 
--- The term of a place with all bindings followed. Where no variable leads back to itself, no chain of bindings is longer
--- than there are bindings.
+-- The term of a place with all bindings followed. Where no variable leads back to itself, no chain
+-- of bindings is longer than there are bindings.
 unfoldable pub under : List Name → Bindings → List Cell → ℕ → Term
-under names bindings cells at = followed names bindings cells (length bindings) (shows names cells at)
+under names bindings cells at =
+    followed names bindings cells (length bindings) (shows names cells at)

@@ -1,9 +1,11 @@
 //! Pieces put in place of a piece. On the stack the first to be written stands last.
 
-ghost use Rattle.std.specs.Prelude.{◌≡◌, ℕ, ◌+◌, ◌^◌, ◌<◌, ◌++◌, length, OnOk};
+ghost use Rattle.std.specs.Prelude.{◌≡◌, ℕ, ◌+◌, ◌^◌, ◌<◌, length};
 ghost use Rattle.tp_terms.specs.Shown.{IsNamed, StandsBefore};
 ghost use Rattle.tp_parse.specs.Ops.{table_of};
-ghost use Rattle.tp_write.specs.Work.{alone_pieces, args_pieces, behind_pieces, compound_pieces, infix_pieces, mark_if, pair_pieces, tail_pieces, term_pieces};
+ghost use Rattle.tp_write.specs.Work.{Puts, alone_pieces, args_pieces, behind_pieces};
+ghost use Rattle.tp_write.specs.Work.{compound_pieces, infix_pieces, mark_if, operator_pieces};
+ghost use Rattle.tp_write.specs.Work.{pair_pieces, tail_pieces, term_pieces};
 
 use crate::form::{cell_form, is_closed, is_comma, is_empty_list, is_list_cell};
 use crate::pieces::{End, Form, Piece, Position};
@@ -21,7 +23,7 @@ fn next_place(at: Ref) -> Ref
 /// Adds the name of an infix operator: a comma without spaces.
 fn push_infix_name(name: AtomId, atoms: &Atoms, stack: &mut Vec<Piece>) -> Result<(), NoMemory>
     requires { name.at < length atoms.now }
-    ensures { OnOk result (stack.new.items ≡ stack.old.items ++ infix_pieces atoms.now name) }
+    ensures { Puts stack.old stack.new result (infix_pieces atoms.now name) }
 {
     if is_comma(name, atoms) {
         stack.push(Piece::Mark(','))?;
@@ -41,7 +43,7 @@ fn push_infix(
 ) -> Result<(), NoMemory>
     requires name { name.at < length atoms.now }
     requires args { first.at + 1 < 2 ^ 64 }
-    ensures { (count : ℕ) → OnOk result (stack.new.items ≡ stack.old.items ++ compound_pieces atoms.now (Form.Infix op) name first count) }
+    ensures { Puts stack.old stack.new result (operator_pieces atoms.now op name first) }
 {
     stack.push(Piece::Term(next_place(first), Position::Operand(right_bound(op))))?;
     push_infix_name(name, atoms, stack)?;
@@ -59,7 +61,7 @@ fn push_compound(
 ) -> Result<(), NoMemory>
     requires name { name.at < length atoms.now }
     requires args { args.0.at + 1 < 2 ^ 64 }
-    ensures { OnOk result (stack.new.items ≡ stack.old.items ++ compound_pieces atoms.now form name args.0 args.1) }
+    ensures { Puts stack.old stack.new result (compound_pieces atoms.now form name args.0 args.1) }
 {
     let (first, count) = args;
     match form {
@@ -93,8 +95,9 @@ fn push_compound(
 /// Adds a term without parentheses around it.
 fn push_alone(cell: Cell, form: Form, atoms: &Atoms, stack: &mut Vec<Piece>) -> Result<(), NoMemory>
     requires named { IsNamed (length atoms.now) cell }
-    requires args { (name : AtomId) (first : Ref) (count : ℕ) → cell ≡ Cell.Comp name first count → first.at + 1 < 2 ^ 64 }
-    ensures { OnOk result (stack.new.items ≡ stack.old.items ++ alone_pieces atoms.now form cell) }
+    requires args { (name : AtomId) (first : Ref) (count : ℕ) →
+        cell ≡ Cell.Comp name first count → first.at + 1 < 2 ^ 64 }
+    ensures { Puts stack.old stack.new result (alone_pieces atoms.now form cell) }
 {
     match cell {
         Cell::Var(number) => stack.extend_from_slice(&[Piece::Number(number), Piece::Mark('_')])?,
@@ -113,7 +116,7 @@ fn push_alone(cell: Cell, form: Form, atoms: &Atoms, stack: &mut Vec<Piece>) -> 
 
 /// Adds a parenthesis where it is needed.
 fn push_mark_if(needed: bool, mark: char, stack: &mut Vec<Piece>) -> Result<(), NoMemory>
-    ensures { OnOk result (stack.new.items ≡ stack.old.items ++ mark_if needed mark) }
+    ensures { Puts stack.old stack.new result (mark_if needed mark) }
 {
     if needed {
         stack.push(Piece::Mark(mark))?;
@@ -131,7 +134,8 @@ pub fn expand_term(
 ) -> Result<(), NoMemory>
     requires named { IsNamed (length atoms.now) end.cell }
     requires before { StandsBefore end.place.at end.cell }
-    ensures { OnOk result (stack.new.items ≡ stack.old.items ++ term_pieces (table_of ops.now) atoms.now position end.cell) }
+    ensures { Puts stack.old stack.new result
+        (term_pieces (table_of ops.now) atoms.now position end.cell) }
 {
     let form = cell_form(end.cell, ops, atoms);
     let needed = is_closed(end.cell, form, position, ops, atoms);
@@ -143,7 +147,7 @@ pub fn expand_term(
 /// Puts pieces in place of so many arguments.
 pub fn expand_args(first: Ref, count: u8, stack: &mut Vec<Piece>) -> Result<(), NoMemory>
     requires { first.at + count < 2 ^ 64 }
-    ensures { OnOk result (stack.new.items ≡ stack.old.items ++ args_pieces first count) }
+    ensures { Puts stack.old stack.new result (args_pieces first count) }
 {
     let term = Piece::Term(first, Position::Within(999));
     match count {
@@ -160,7 +164,7 @@ pub fn expand_args(first: Ref, count: u8, stack: &mut Vec<Piece>) -> Result<(), 
 
 /// Adds what follows an element where it is no list.
 fn push_tail(place: Ref, stack: &mut Vec<Piece>) -> Result<(), NoMemory>
-    ensures { OnOk result (stack.new.items ≡ stack.old.items ++ tail_pieces place) }
+    ensures { Puts stack.old stack.new result (tail_pieces place) }
 {
     stack.extend_from_slice(&[Piece::Term(place, Position::Within(999)), Piece::Mark('|')])?;
     Ok(())
@@ -176,7 +180,7 @@ fn push_pair(
 ) -> Result<(), NoMemory>
     requires name { name.at < length atoms.now }
     requires args { args.0.at + args.1 < 2 ^ 64 }
-    ensures { OnOk result (stack.new.items ≡ stack.old.items ++ pair_pieces atoms.now name place args.0 args.1) }
+    ensures { Puts stack.old stack.new result (pair_pieces atoms.now name place args.0 args.1) }
 {
     let (first, count) = args;
     if count == 2 && is_list_cell(name, atoms) {
@@ -195,7 +199,7 @@ fn push_pair(
 pub fn expand_behind(end: End, atoms: &Atoms, stack: &mut Vec<Piece>) -> Result<(), NoMemory>
     requires named { IsNamed (length atoms.now) end.cell }
     requires before { StandsBefore end.place.at end.cell }
-    ensures { OnOk result (stack.new.items ≡ stack.old.items ++ behind_pieces atoms.now end.place end.cell) }
+    ensures { Puts stack.old stack.new result (behind_pieces atoms.now end.place end.cell) }
 {
     match end.cell {
         Cell::Atom(name) => {

@@ -46,7 +46,8 @@ pub fn is_comma(name: AtomId, atoms: &Atoms) -> bool
 /// The form of a term of one argument.
 fn unary_form(name: AtomId, ops: &Ops, atoms: &Atoms) -> Form
     requires { name.at < length atoms.now }
-    ensures { result ≡ unary_form (name_at atoms.now name.at) ((table_of ops.now).prefixes (name_at atoms.now name.at)) }
+    ensures { let text = name_at atoms.now name.at in
+        result ≡ unary_form text ((table_of ops.now).prefixes text) }
 {
     if is_braces(name, atoms) {
         return Form::Braces;
@@ -60,7 +61,8 @@ fn unary_form(name: AtomId, ops: &Ops, atoms: &Atoms) -> Form
 /// The form of a term of two arguments.
 fn binary_form(name: AtomId, ops: &Ops, atoms: &Atoms) -> Form
     requires { name.at < length atoms.now }
-    ensures { result ≡ binary_form (name_at atoms.now name.at) ((table_of ops.now).infixes (name_at atoms.now name.at)) }
+    ensures { let text = name_at atoms.now name.at in
+        result ≡ binary_form text ((table_of ops.now).infixes text) }
 {
     if is_list_cell(name, atoms) {
         return Form::Listed;

@@ -8,5 +8,5 @@ mod names;
 mod pieces;
 mod write;
 
-pub use names::write_name;
+pub use names::{write_name, write_quoted};
 pub use write::write_term;

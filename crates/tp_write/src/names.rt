@@ -1,67 +1,14 @@
 //! Writing names.
 
-ghost use Rattle.std.specs.Prelude.{◌≡◌, ◌%◌, ◌++◌, ℕ, List, [], ◌∷◌, chars, string_bytes, IsTrue, IfSome, IfNone, MatchOption, OnOk, OnErr};
+ghost use Rattle.std.specs.Prelude.{◌≡◌, ◌%◌, chars, IsTrue, IfSome, IfNone};
 ghost use Rattle.std.specs.Char.{digit_char};
-ghost use Rattle.std.specs.List.{list_all};
-ghost use Rattle.std.specs.Str.{IsUtf8};
-ghost use Rattle.tp_lex.specs.Characters.{is_graphic, is_name_start};
-ghost use Rattle.unicode_ident.specs.Ident.{is_xid_continue};
-ghost use Rattle.tp_write.specs.Names.{name_text, is_letter_digit, begins_comment, is_graphic_name, is_solo, is_bare, code_escape, escaped, quoted};
-ghost use Rattle.tp_write.specs.Escaping.{coded, escape_start, is_control};
-ghost use Rattle.tp_write.specs.Progress.{PrefixAdded};
+ghost use Rattle.tp_terms.specs.Added.{Adds};
+ghost use Rattle.tp_write.specs.Names.{begins_comment, is_bare, is_graphic_name, is_solo};
+ghost use Rattle.tp_write.specs.Names.{code_escape, coded, escape_start, escaped, is_control};
+ghost use Rattle.tp_write.specs.Names.{name_text, quoted};
 
-use tp_terms::NoMemory;
-
-/// The first character, and what follows it.
-fn split_first(text: &str) -> Option<(char, &str)>
-    ensures split { MatchOption result (chars text.now ≡ []) (λ p. chars text.now ≡ p.0 ∷ chars p.1.now) }
-    ensures utf8 { IfSome result (λ p. IsUtf8 p.1.now) }
-{
-    let mut rest = text.chars();
-    let first = rest.next()?;
-    Some((first, rest.as_str()))
-}
-
-/// Whether the character is graphic.
-fn is_graphic(c: char) -> bool
-    ensures { result ≡ is_graphic c }
-{
-    matches!(
-        c,
-        '#'..='$' | '&' | '*'..='+' | '-'..='/' | ':' | '<'..='@' | '\\' | '^' | '~'
-    )
-}
-
-/// Whether all characters may go on a letter-digit name.
-fn are_continuing(text: &str) -> bool
-    ensures { result ≡ list_all is_xid_continue (chars text.now) }
-{
-    text.chars().all(|c| unicode_ident::is_xid_continue(c))
-}
-
-/// Whether all characters are graphic.
-fn are_graphic(text: &str) -> bool
-    ensures { result ≡ list_all is_graphic (chars text.now) }
-{
-    text.chars().all(|c| is_graphic(c))
-}
-
-/// Whether a letter-digit name begins with the character.
-fn is_name_start(c: char) -> bool
-    ensures { result ≡ is_name_start c }
-{
-    unicode_ident::is_xid_start(c) && !c.is_ascii_uppercase()
-}
-
-/// Whether the name is a letter-digit name.
-fn is_letter_digit(name: &str) -> bool
-    ensures { result ≡ is_letter_digit (chars name.now) }
-{
-    match split_first(name) {
-        Some((c, rest)) => is_name_start(c) && are_continuing(rest),
-        None => false,
-    }
-}
+use tp_lex::{Class, are_in_class, is_letter_digit, split_first};
+use tp_terms::{NoMemory, push_char, push_text};
 
 /// Whether the name begins as a comment does.
 fn begins_comment(name: &str) -> bool
@@ -76,13 +23,14 @@ fn begins_comment(name: &str) -> bool
     first == '/' && second == '*'
 }
 
-/// Whether the name is made of graphic characters, and is neither `.` nor the beginning of a comment.
+/// Whether the name is made of graphic characters, and is neither `.` nor the beginning of a
+/// comment.
 fn is_graphic_name(name: &str) -> bool
     ensures { result ≡ is_graphic_name (chars name.now) }
 {
     match name {
         "" | "." => false,
-        _ => are_graphic(name) && !begins_comment(name),
+        _ => are_in_class(Class::Graphic, name) && !begins_comment(name),
     }
 }
 
@@ -119,24 +67,6 @@ fn short_escape(c: char) -> Option<&'static str>
     }
 }
 
-/// Adds a text.
-pub fn push_text(text: &str, out: &mut String) -> Result<(), NoMemory>
-    ensures ok { OnOk result (chars (string_bytes out.new) ≡ chars (string_bytes out.old) ++ chars text.now) }
-    ensures err { OnErr result (chars (string_bytes out.new) ≡ chars (string_bytes out.old)) }
-{
-    out.push_str(text)?;
-    Ok(())
-}
-
-/// Adds a character.
-pub fn push_char(c: char, out: &mut String) -> Result<(), NoMemory>
-    ensures ok { OnOk result (chars (string_bytes out.new) ≡ chars (string_bytes out.old) ++ c ∷ []) }
-    ensures err { OnErr result (chars (string_bytes out.new) ≡ chars (string_bytes out.old)) }
-{
-    out.push(c)?;
-    Ok(())
-}
-
 /// How the escape of a code begins: all but its last digit and the closing backslash.
 fn escape_start(c: char) -> &'static str
     ensures { chars result.now ≡ escape_start c }
@@ -163,19 +93,16 @@ fn last_digit(c: char) -> char
 /// Adds the escape of a control character by its code.
 fn push_code_escape(c: char, out: &mut String) -> Result<(), NoMemory>
     requires { IsTrue (is_control c) }
-    ensures text { OnOk result (chars (string_bytes out.new) ≡ chars (string_bytes out.old) ++ code_escape c) }
-    ensures prefix { OnErr result (PrefixAdded (chars (string_bytes out.old)) (chars (string_bytes out.new)) (code_escape c)) }
+    ensures added { Adds out.old out.new result (code_escape c) }
 {
     push_text(escape_start(c), out)?;
     push_char(last_digit(c), out)?;
-    push_char('\\', out)?;
-    Ok(())
+    push_char('\\', out)
 }
 
 /// Adds a character that has no escape of one letter.
 fn push_coded(c: char, out: &mut String) -> Result<(), NoMemory>
-    ensures text { OnOk result (chars (string_bytes out.new) ≡ chars (string_bytes out.old) ++ coded c) }
-    ensures prefix { OnErr result (PrefixAdded (chars (string_bytes out.old)) (chars (string_bytes out.new)) (coded c)) }
+    ensures added { Adds out.old out.new result (coded c) }
 {
     if (c as u32) < 32 || c == '\x7f' {
         push_code_escape(c, out)
@@ -186,8 +113,7 @@ fn push_coded(c: char, out: &mut String) -> Result<(), NoMemory>
 
 /// Adds a character as it stands between quotes.
 fn push_escaped(c: char, out: &mut String) -> Result<(), NoMemory>
-    ensures text { OnOk result (chars (string_bytes out.new) ≡ chars (string_bytes out.old) ++ escaped c) }
-    ensures prefix { OnErr result (PrefixAdded (chars (string_bytes out.old)) (chars (string_bytes out.new)) (escaped c)) }
+    ensures added { Adds out.old out.new result (escaped c) }
 {
     match short_escape(c) {
         Some(text) => push_text(text, out),
@@ -195,10 +121,12 @@ fn push_escaped(c: char, out: &mut String) -> Result<(), NoMemory>
     }
 }
 
-/// Adds a name between quotes.
-fn write_quoted(name: &str, out: &mut String) -> Result<(), NoMemory>
-    ensures text { OnOk result (chars (string_bytes out.new) ≡ chars (string_bytes out.old) ++ quoted (chars name.now)) }
-    ensures prefix { OnErr result (PrefixAdded (chars (string_bytes out.old)) (chars (string_bytes out.new)) (quoted (chars name.now))) }
+/// Adds a name between quotes, also where it could stand without them.
+///
+/// # Errors
+/// `NoMemory` where memory was refused; then a prefix of the text was added.
+pub fn write_quoted(name: &str, out: &mut String) -> Result<(), NoMemory>
+    ensures added { Adds out.old out.new result (quoted (chars name.now)) }
 {
     push_char('\'', out)?;
     let mut rest = name;
@@ -206,8 +134,7 @@ fn write_quoted(name: &str, out: &mut String) -> Result<(), NoMemory>
         push_escaped(c, out)?;
         rest = after;
     }
-    push_char('\'', out)?;
-    Ok(())
+    push_char('\'', out)
 }
 
 /// Adds the written form of a name.
@@ -216,8 +143,7 @@ fn write_quoted(name: &str, out: &mut String) -> Result<(), NoMemory>
 /// `NoMemory` where memory was refused; then a prefix of the text was added.
 #[tactic(auto, unfolding(crate::specs::Names::name_text))]
 pub fn write_name(name: &str, out: &mut String) -> Result<(), NoMemory>
-    ensures text { OnOk result (chars (string_bytes out.new) ≡ chars (string_bytes out.old) ++ name_text (chars name.now)) }
-    ensures prefix { OnErr result ((more rest : List ℕ) × (name_text (chars name.now) ≡ more ++ rest) × (chars (string_bytes out.new) ≡ chars (string_bytes out.old) ++ more)) }
+    ensures added { Adds out.old out.new result (name_text (chars name.now)) }
 {
     if is_bare(name) {
         push_text(name, out)

@@ -1,22 +1,31 @@
 //! Writing terms: a list of pieces in place of recursion.
 
-ghost use Rattle.std.specs.Prelude.{◌≡◌, ◌<◌, ◌++◌, ℕ, List, length, chars, decimal, string_bytes, OnOk, OnErr};
+ghost use Rattle.std.specs.Prelude.{◌≡◌, ◌<◌, OnOk, length, decimal};
 ghost use Rattle.std.specs.Fmt.{signed_decimal};
+ghost use Rattle.tp_terms.specs.Added.{Adds};
 ghost use Rattle.tp_terms.specs.Binds.{Fits};
 ghost use Rattle.tp_terms.specs.Shown.{AreNamed};
 ghost use Rattle.tp_parse.specs.Ops.{table_of};
-ghost use Rattle.tp_write.specs.Progress.{PrefixAdded};
 ghost use Rattle.tp_write.specs.Text.{text};
 ghost use Rattle.tp_write.specs.Under.{under};
-ghost use Rattle.tp_write.specs.Work.{ArePieces, Ends, IsPiece, Stepped, next_of, piece_text, stack_text};
+ghost use Rattle.tp_write.specs.Work.{ArePieces, Ends, IsPiece, Stepped, next_of, own_text};
 
 use crate::expand::{expand_args, expand_behind, expand_term};
-use crate::names::{push_char, push_text, write_name};
+use crate::names::write_name;
 use crate::pieces::{End, Piece, Position};
 use itoa::Buffer;
 use std::alloc::Global;
 use tp_parse::Ops;
-use tp_terms::{Atoms, Binds, Cell, Cells, NoMemory, Ref};
+use tp_terms::{Atoms, Binds, Cell, Cells, NoMemory, Ref, push_char, push_text};
+
+/// What a term is written from: cells with the bindings of their variables, under operators.
+#[derive(Drop)]
+struct Source<'a, B: Binds> {
+    cells: &'a Cells,
+    binds: &'a B,
+    ops: &'a Ops,
+    atoms: &'a Atoms,
+}
 
 /// The place that a bound variable leads to.
 fn next_of<B: Binds>(cell: Cell, binds: &B) -> Option<Ref>
@@ -45,57 +54,55 @@ fn end<B: Binds>(cells: &Cells, binds: &B, at: Ref) -> End
 
 /// Adds the digits of a number.
 fn push_number(number: u64, out: &mut String) -> Result<(), NoMemory>
-    ensures ok { OnOk result (chars (string_bytes out.new) ≡ chars (string_bytes out.old) ++ decimal number) }
-    ensures err { OnErr result (chars (string_bytes out.new) ≡ chars (string_bytes out.old)) }
+    ensures added { Adds out.old out.new result (decimal number) }
 {
     let mut buffer = Buffer::new();
-    push_text(buffer.format(number), out)?;
-    Ok(())
+    push_text(buffer.format(number), out)
 }
 
 /// Adds an integer.
 fn push_integer(value: i64, out: &mut String) -> Result<(), NoMemory>
-    ensures ok { OnOk result (chars (string_bytes out.new) ≡ chars (string_bytes out.old) ++ signed_decimal value) }
-    ensures err { OnErr result (chars (string_bytes out.new) ≡ chars (string_bytes out.old)) }
+    ensures added { Adds out.old out.new result (signed_decimal value) }
 {
     let mut buffer = Buffer::new();
-    push_text(buffer.format(value), out)?;
-    Ok(())
+    push_text(buffer.format(value), out)
 }
 
 /// Writes a piece, or puts pieces in its place.
-#[allow(clippy::too_many_arguments)]
 fn step<B: Binds>(
     piece: Piece,
-    cells: &Cells,
-    binds: &B,
-    ops: &Ops,
-    atoms: &Atoms,
+    source: &Source<'_, B>,
     stack: &mut Vec<Piece>,
     out: &mut String,
 ) -> Result<(), NoMemory>
-    requires piece { IsPiece (length atoms.now) cells.now.items piece }
-    requires pieces { ArePieces (length atoms.now) cells.now.items stack.old.items }
-    requires named { AreNamed (length atoms.now) cells.now.items }
-    requires fits { Fits (B.bindings binds.now) cells.now.items }
-    ensures step { OnOk result (Stepped (table_of ops.now) atoms.now (B.bindings binds.now) cells.now.items piece stack.old.items stack.new.items (chars (string_bytes out.old)) (chars (string_bytes out.new))) }
-    ensures prefix { OnErr result (PrefixAdded (chars (string_bytes out.old)) (chars (string_bytes out.new)) (piece_text (table_of ops.now) atoms.now (B.bindings binds.now) cells.now.items piece)) }
+    requires piece { IsPiece (length source.now.atoms.now) source.now.cells.now.items piece }
+    requires pieces { let source = source.now in
+        ArePieces (length source.atoms.now) source.cells.now.items stack.old.items }
+    requires named { AreNamed (length source.now.atoms.now) source.now.cells.now.items }
+    requires fits { Fits (B.bindings source.now.binds.now) source.now.cells.now.items }
+    ensures added { Adds out.old out.new result (own_text source.now.atoms.now piece) }
+    ensures step { let source = source.now in OnOk result
+        (Stepped (table_of source.ops.now) source.atoms.now (B.bindings source.binds.now)
+        source.cells.now.items piece stack.old.items stack.new.items) }
 {
     match piece {
         Piece::Mark(c) => push_char(c, out),
-        Piece::Name(name) => write_name(atoms.name(name), out),
+        Piece::Name(name) => write_name(source.atoms.name(name), out),
         Piece::Number(number) => push_number(number, out),
         Piece::Integer(value) => push_integer(value, out),
         Piece::Term(at, position) => {
-            expand_term(end(cells, binds, at), position, ops, atoms, stack)
+            let end = end(source.cells, source.binds, at);
+            expand_term(end, position, source.ops, source.atoms, stack)
         }
         Piece::Args(first, count) => expand_args(first, count, stack),
-        Piece::Behind(at) => expand_behind(end(cells, binds, at), atoms, stack),
+        Piece::Behind(at) => {
+            expand_behind(end(source.cells, source.binds, at), source.atoms, stack)
+        }
     }
 }
 
-/// Adds the written form of the term of a place with all bindings followed, in parentheses where its priority is above
-/// `max`.
+/// Adds the written form of the term of a place with all bindings followed, in parentheses where
+/// its priority is above `max`.
 ///
 /// # Errors
 /// `NoMemory` where memory was refused; then a prefix of the text was added.
@@ -113,15 +120,19 @@ pub fn write_term<B: Binds>(
     requires root { root.at < length cells.now.items }
     requires named { AreNamed (length atoms.now) cells.now.items }
     requires fits { Fits (B.bindings binds.now) cells.now.items }
-    ensures text { let written = text (table_of ops.now) max (under atoms.now (B.bindings binds.now) cells.now.items root.at) in
-        OnOk result (chars (string_bytes out.new) ≡ chars (string_bytes out.old) ++ written) }
-    ensures prefix { let written = text (table_of ops.now) max (under atoms.now (B.bindings binds.now) cells.now.items root.at) in
-        OnErr result ((more rest : List ℕ) × (written ≡ more ++ rest) × (chars (string_bytes out.new) ≡ chars (string_bytes out.old) ++ more)) }
+    ensures added { Adds out.old out.new result (text (table_of ops.now) max
+        (under atoms.now (B.bindings binds.now) cells.now.items root.at)) }
 {
+    let source = Source {
+        cells,
+        binds,
+        ops,
+        atoms,
+    };
     let mut stack = Vec::new(alloc);
     stack.push(Piece::Term(root, Position::Within(max)))?;
     'pieces: while let Some(piece) = stack.pop() {
-        step(piece, cells, binds, ops, atoms, &mut stack, out)?;
+        step(piece, &source, &mut stack, out)?;
     }
     Ok(())
 }

@@ -112,7 +112,8 @@ fn answers_texts(rt: HostRuntime) -> Result<(), Fail> {
             LIKES,
             "X likes Y",
             Status::Found,
-            "answer 1\nX = a\nY = b\n0 main: start\n0 main: end\nend 0 steps 4\nstopped after 4 steps\n",
+            "answer 1\nX = a\nY = b\n0 main: start\n0 main: end\nend 0 steps 4\n\
+            stopped after 4 steps\n",
         ),
         (
             b"p(1).\xff",

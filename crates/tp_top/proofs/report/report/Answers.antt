@@ -5,4 +5,4 @@ use Rattle.tp_top.proofs.report.report.Goals as goal
 pub returns : goal.returns
 returns c =
     c.made.ensures ∙ reply-whole c.in_ok-status.status c.end_text.new.out (chars (string_bytes c.args.text)) c.args.ended.now.steps c.in_ok-status.end _
-    c.in_ok-status.ensures c.in_ok-end_text.ensures.text
+    c.in_ok-status.ensures c.in_ok-end_text.ensures.added

@@ -1,4 +1,4 @@
-use Rattle.tp_write.proofs.FormLemmas.{named_braces}
+use Rattle.tp_write.proofs.Writes.Forms.{named_braces}
 use Rattle.tp_write.proofs.form.is_braces.Goals as goal
 
 pub returns : goal.returns

@@ -1,4 +1,4 @@
-use Rattle.tp_write.proofs.FormLemmas.{named_comma}
+use Rattle.tp_write.proofs.Writes.Forms.{named_comma}
 use Rattle.tp_write.proofs.form.is_comma.Goals as goal
 
 pub returns : goal.returns

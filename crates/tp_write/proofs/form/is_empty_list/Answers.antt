@@ -1,4 +1,4 @@
-use Rattle.tp_write.proofs.FormLemmas.{named_empty_list}
+use Rattle.tp_write.proofs.Writes.Forms.{named_empty_list}
 use Rattle.tp_write.proofs.form.is_empty_list.Goals as goal
 
 pub returns : goal.returns

@@ -1,4 +1,4 @@
-use Rattle.tp_write.proofs.FormLemmas.{named_dot}
+use Rattle.tp_write.proofs.Writes.Forms.{named_dot}
 use Rattle.tp_write.proofs.form.is_list_cell.Goals as goal
 
 pub returns : goal.returns

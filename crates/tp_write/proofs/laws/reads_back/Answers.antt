@@ -1,4 +1,4 @@
-use Rattle.tp_write.proofs.ReadsBackLemmas.{written_reads_back}
+use Rattle.tp_write.proofs.ReadsBack.Whole.{written_reads_back}
 use Rattle.tp_write.proofs.laws.reads_back.Goals as goal
 
 pub returns : goal.returns

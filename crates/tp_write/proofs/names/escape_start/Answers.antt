@@ -1,4 +1,4 @@
-use Rattle.tp_write.proofs.NameLemmas.{start-low, start-middle, start-high}
+use Rattle.tp_write.proofs.Writes.Names.{start-low, start-middle, start-high}
 use Rattle.tp_write.proofs.names.escape_start.Goals as goal
 
 pub returns-then-c-lt16 : goal.returns-then-c-lt16

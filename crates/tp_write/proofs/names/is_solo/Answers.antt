@@ -1,5 +1,5 @@
 use Rattle.std.proofs.Common.{sym}
-use Rattle.tp_write.proofs.NameLemmas.{solo-one, solo-none}
+use Rattle.tp_write.proofs.Writes.Names.{solo-one, solo-none}
 use Rattle.tp_write.proofs.names.is_solo.Goals as goal
 
 pub returns-in-text : goal.returns-in-text

@@ -3,7 +3,7 @@ use denote.Text.{Utf8}
 use denote.Shadow.{shadow}
 use Rattle.tp_lex.specs.Characters.{quote}
 use Rattle.tp_write.specs.Names.{all_escaped, quoted}
-use Rattle.tp_write.specs.Progress.{Progress}
+use Rattle.tp_terms.specs.Added.{Progress}
 use Rattle.tp_write.proofs.names.write_quoted.Given as goal
 
 abbrev pub invariant-characters : goal.invariant-characters

@@ -1,4 +1,4 @@
-use Rattle.tp_write.proofs.ChainLemmas.{reach-step, under-step, ends-at}
+use Rattle.tp_write.proofs.BindingsEnd.Chains.{reach-step, under-step, ends-at}
 use Rattle.tp_write.proofs.write.end.Goals as goal
 
 pub chain-smaller : goal.chain-smaller

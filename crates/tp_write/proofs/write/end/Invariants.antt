@@ -2,7 +2,7 @@ use Rattle.std.proofs.Common.{◌≡◌, List, Some, slice_get}
 use Rattle.tp_terms.specs.Term.{Name}
 use Rattle.tp_terms.specs.Shown.{StandsBefore}
 use Rattle.tp_write.specs.Under.{under}
-use Rattle.tp_write.proofs.ChainLemmas.{cell_reach}
+use Rattle.tp_write.proofs.BindingsEnd.Chains.{cell_reach}
 use Rattle.tp_write.proofs.write.end.Given as goal
 
 abbrev pub invariant-chain : goal.invariant-chain

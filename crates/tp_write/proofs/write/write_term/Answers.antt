@@ -1,11 +1,11 @@
 use Rattle.std.specs.Prelude.{vec_len}
-use Rattle.std.proofs.Common.{◌≡◌, ◌++◌, [], ◌∷◌, length, arith, chars, string_bytes, sym, ap, subst, ◌∙◌}
+use Rattle.std.proofs.Common.{◌≡◌, ◌++◌, [], ◌∷◌, length, arith, chars, string_bytes, refl, sym, ap, subst, ◌∙◌}
+use Rattle.tp_terms.proofs.AddedLemmas.{Adds-exit, Adds-none}
 use Rattle.tp_parse.specs.Ops.{table_of}
 use Rattle.tp_write.specs.declared.pieces.Piece.TheVariants.{Term}
 use Rattle.tp_write.specs.declared.pieces.Position.TheVariants.{Within}
 use Rattle.tp_write.specs.Work.{ArePieces}
-use Rattle.tp_write.proofs.ProgressLemmas.{as_prefix, on_err}
-use Rattle.tp_write.proofs.WorkLemmas.{taken-pieces, work-begins, work-smaller, work-goes, work-stops, work-ends, nothing_left}
+use Rattle.tp_write.proofs.Writes.Steps.{taken-pieces, work-begins, work-smaller, work-goes, work-stops, work-ends, nothing_left}
 use Rattle.tp_write.proofs.write.write_term.Goals as goal
 
 pub pieces-init : goal.pieces-init
@@ -23,20 +23,24 @@ pub step-requires-clause-pieces : goal.step-requires-clause-pieces
 step-requires-clause-pieces g c = (taken-pieces (table_of c.args.ops.now) c.args.atoms.now (g.B.Binds.bindings c.args.binds.now) c.args.cells.now.items c.pieces.stack.items c.pop.new.self.items c.in-Some.piece c.in-Some.ensures.items c.pieces.invariant.pieces).0
 
 pub pieces-smaller : goal.pieces-smaller
-pieces-smaller g c = work-smaller (table_of c.args.ops.now) c.args.atoms.now (g.B.Binds.bindings c.args.binds.now) c.args.cells.now.items c.pieces.stack.items c.pop.new.self.items c.step.new.stack.items c.in-Some.piece _ _ c.in-Some.ensures.items c.in_ok-step.ensures.step
+pieces-smaller g c = work-smaller (table_of c.args.ops.now) c.args.atoms.now (g.B.Binds.bindings c.args.binds.now) c.args.cells.now.items c.pieces.stack.items c.pop.new.self.items c.step.new.stack.items c.in-Some.piece c.in-Some.ensures.items c.in_ok-step.ensures.step
 
 pub pieces-preserved : goal.pieces-preserved
 pieces-preserved g c = record {
   pieces = c.in_ok-step.ensures.step.pieces;
-  progress = work-goes (table_of c.args.ops.now) c.args.atoms.now (g.B.Binds.bindings c.args.binds.now) c.args.cells.now.items _ _ _ _ c.pieces.stack.items c.pop.new.self.items c.step.new.stack.items c.in-Some.piece c.in-Some.ensures.items c.in_ok-step.ensures.step c.pieces.invariant.progress;
+  progress = work-goes (table_of c.args.ops.now) c.args.atoms.now (g.B.Binds.bindings c.args.binds.now) c.args.cells.now.items _ _ _ _ c.pieces.stack.items c.pop.new.self.items c.step.new.stack.items c.in-Some.piece c.in-Some.ensures.items c.in_ok-step.ensures.added c.in_ok-step.ensures.step c.pieces.invariant.progress;
 }
 
-pub returns-in_err-step-clause-prefix : goal.returns-in_err-step-clause-prefix
-returns-in_err-step-clause-prefix g c =
-    on_err _ _ (as_prefix _ _ _ (work-stops (table_of c.args.ops.now) c.args.atoms.now (g.B.Binds.bindings c.args.binds.now) c.args.cells.now.items _ _ _ _ c.pieces.stack.items c.pop.new.self.items c.in-Some.piece c.in-Some.ensures.items c.in_err-step.ensures.prefix c.pieces.invariant.progress))
+pub returns-in_err-push : goal.returns-in_err-push
+returns-in_err-push g c = record { added = Adds-none _ _ c.args.out.now c.args.out.now _ c.from_residual.ensures.1 refl }
 
-pub returns-clause-text : goal.returns-clause-text
-returns-clause-text g c =
+pub returns-in_err-step : goal.returns-in_err-step
+returns-in_err-step g c =
+    let within = work-stops (table_of c.args.ops.now) c.args.atoms.now (g.B.Binds.bindings c.args.binds.now) c.args.cells.now.items _ _ _ _ c.pieces.stack.items c.pop.new.self.items c.in-Some.piece c.in-Some.ensures.items c.in_err-step.ensures.added c.pieces.invariant.progress in
+    record { added = Adds-exit _ _ c.args.out.now c.step.new.out _ c.from_residual-in_err-step.ensures.1 within }
+
+pub returns : goal.returns
+returns g c =
     let counted : vec_len c.pieces.stack ≡ length c.pieces.stack.items = omega arith in
     let none : c.pieces.stack.items ≡ [] = nothing_left c.pieces.stack.items (vec_len c.pieces.stack) c.pop.result c.pop.ensures.variant.1 c.in_default.not-Some counted in
-    work-ends (table_of c.args.ops.now) c.args.atoms.now (g.B.Binds.bindings c.args.binds.now) c.args.cells.now.items _ _ _ c.pieces.stack.items none c.pieces.invariant.progress
+    record { added = work-ends (table_of c.args.ops.now) c.args.atoms.now (g.B.Binds.bindings c.args.binds.now) c.args.cells.now.items _ _ _ c.pieces.stack.items none c.pieces.invariant.progress }

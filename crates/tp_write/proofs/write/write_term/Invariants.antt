@@ -1,6 +1,6 @@
 use Rattle.std.proofs.Common.{length, chars, string_bytes}
 use Rattle.tp_parse.specs.Ops.{table_of}
-use Rattle.tp_write.specs.Progress.{Progress}
+use Rattle.tp_terms.specs.Added.{Progress}
 use Rattle.tp_write.specs.Text.{text}
 use Rattle.tp_write.specs.Under.{under}
 use Rattle.tp_write.specs.Work.{ArePieces, stack_text, stack_weight}

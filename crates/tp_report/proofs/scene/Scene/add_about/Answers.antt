@@ -1,32 +1,30 @@
-use Rattle.std.proofs.Common.{codes, refl}
-use Rattle.std.proofs.lemmas.Result.{err_from_is_err_and}
+use Rattle.std.proofs.Common.{◌++◌, codes, refl}
 use Rattle.std.specs.Str.{chars}
-use Rattle.tp_parse.specs.Ops.{table_of}
-use Rattle.tp_write.specs.Text.{text}
-use Rattle.tp_write.specs.Under.{under}
-use Rattle.tp_report.proofs.AddedLemmas.{three_first, three_second, three_text, three_prefix}
+use Rattle.tp_report.specs.Seen.{seen_by}
+use Rattle.tp_report.specs.Lines.{term_text}
+use Rattle.tp_report.proofs.Parts.Calls.{first_stops, second_stops, third_adds}
 use Rattle.tp_report.proofs.scene.Scene.add_about.Goals as goal
 
-pub returns-in_err-add_text-clause-prefix : goal.returns-in_err-add_text-clause-prefix
+pub returns-in_err-push_text : goal.returns-in_err-push_text
 unfolding chars
-returns-in_err-add_text-clause-prefix g c =
-    let p = err_from_is_err_and c.from_residual.result c.from_residual.ensures.1 in
-    rw p.1
-    (three_first _ _ _ (text (table_of c.args.self.now.ops.now) 999 (under c.args.self.now.atoms.now (g.B.Binds.bindings c.args.self.now.binds.now) c.args.self.now.cells.now.items c.args.term.at)) (codes ")") _ refl c.in_err-add_text.ensures.prefix)
+returns-in_err-push_text g c = record {
+  added =
+      first_stops _ _ c.args.out.now c.push_text.new.out _ _ (term_text (seen_by g.B.Binds.bindings c.args.self.now) 999 c.args.term.at ++ codes ")")
+      (refl) c.from_residual.ensures.1 c.in_err-push_text.ensures.added;
+}
 
-pub returns-in_err-add_term-clause-prefix : goal.returns-in_err-add_term-clause-prefix
+pub returns-in_err-add_term : goal.returns-in_err-add_term
 unfolding chars
-returns-in_err-add_term-clause-prefix g c =
-    let p = err_from_is_err_and c.from_residual-in_err-add_term.result c.from_residual-in_err-add_term.ensures.1 in
-    rw p.1
-    (three_second _ _ _ _ _ _ _ refl c.in_ok-add_text.ensures.text c.in_err-add_term.ensures.prefix)
+returns-in_err-add_term g c = record {
+  added =
+      second_stops _ _ c.args.out.now c.push_text.new.out c.add_term.new.out _ _ _ _
+      (refl) c.from_residual-in_err-add_term.ensures.1 c.in_ok-push_text.ensures.added c.in_err-add_term.ensures.added;
+}
 
-pub returns-clause-text : goal.returns-clause-text
+pub returns : goal.returns
 unfolding chars
-returns-clause-text g c =
-    three_text c.add_text-2.result _ _ _ _ _ _ _ _ refl c.in_ok-add_text.ensures.text c.in_ok-add_term.ensures.text c.add_text-2.ensures.text
-
-pub returns-clause-prefix : goal.returns-clause-prefix
-unfolding chars
-returns-clause-prefix g c =
-    three_prefix c.add_text-2.result _ _ _ _ _ _ _ _ refl c.in_ok-add_text.ensures.text c.in_ok-add_term.ensures.text c.add_text-2.ensures.prefix
+returns g c = record {
+  added =
+      third_adds c.push_text-2.result c.args.out.now c.push_text.new.out c.add_term.new.out c.push_text-2.new.out _ _ _ _
+      (refl) c.in_ok-push_text.ensures.added c.in_ok-add_term.ensures.added c.push_text-2.ensures.added;
+}

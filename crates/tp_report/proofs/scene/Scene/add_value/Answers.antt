@@ -1,12 +1,12 @@
 use Rattle.std.specs.Str.{chars}
-use Rattle.tp_report.proofs.AddedLemmas.{text_as, prefix_as}
-use Rattle.tp_report.proofs.SceneLemmas.{unbound-pieces}
+use Rattle.tp_terms.proofs.AddedLemmas.{Adds-as}
+use Rattle.tp_report.specs.Seen.{seen_by}
+use Rattle.tp_report.proofs.AnswerLines.Pieces.{unbound-pieces}
 use Rattle.tp_report.proofs.scene.Scene.add_value.Goals as goal
 
-pub returns-in-None-clause-text : goal.returns-in-None-clause-text
+pub returns-in-None : goal.returns-in-None
 unfolding chars
-returns-in-None-clause-text g c = text_as c.add_pieces.result _ _ _ _ (unbound-pieces _ _ _ _ _ c.in-None.ensures) c.add_pieces.ensures.text
-
-pub returns-in-None-clause-prefix : goal.returns-in-None-clause-prefix
-unfolding chars
-returns-in-None-clause-prefix g c = prefix_as c.add_pieces.result _ _ _ _ (unbound-pieces _ _ _ _ _ c.in-None.ensures) c.add_pieces.ensures.prefix
+returns-in-None g c = record {
+  added =
+      Adds-as c.add_pieces.result c.args.out.now c.add_pieces.new.out _ _ (unbound-pieces (seen_by g.B.Binds.bindings c.args.self.now) _ c.in-None.ensures) c.add_pieces.ensures.added;
+}

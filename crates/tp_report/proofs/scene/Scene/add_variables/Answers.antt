@@ -1,23 +1,35 @@
-use Rattle.std.proofs.Common.{refl}
+use Rattle.std.proofs.Common.{chars, string_bytes, refl}
 use Rattle.std.proofs.lemmas.Option.{slice_get_read}
-use Rattle.std.proofs.lemmas.Result.{err_from_is_err_and}
-use Rattle.tp_terms.specs.declared.text.Named.{Named}
-use Rattle.tp_parse.specs.Ops.{table_of}
-use Rattle.tp_report.specs.Report.{variable_line}
-use Rattle.tp_report.specs.Seen.{variable_seen}
-use Rattle.tp_report.proofs.AddedLemmas.{joined_step, mapped_cut, mapped_all}
+use Rattle.tp_terms.proofs.AddedLemmas.{begins, goes, ends}
+use Rattle.tp_report.specs.Seen.{seen_by}
+use Rattle.tp_report.specs.Lines.{variable_text, variables_text}
+use Rattle.tp_report.proofs.Parts.Calls.{part_stops}
+use Rattle.tp_report.proofs.Parts.Joined.{left-next, left-none}
 use Rattle.tp_report.proofs.scene.Scene.add_variables.Goals as goal
 
-pub returns-in_err-add_variable-clause-prefix : goal.returns-in_err-add_variable-clause-prefix
-returns-in_err-add_variable-clause-prefix g c =
-    let p = err_from_is_err_and c.from_residual.result c.from_residual.ensures.1 in
-    rw p.1
-    (mapped_cut (variable_line (table_of c.args.self.now.ops.now)) (variable_seen c.args.self.now.atoms.now (g.B.Binds.bindings c.args.self.now.binds.now) c.args.self.now.cells.now.items) c.args.named.now c.loop-variable.variable-index c.variable-item.result _ _ _ (slice_get_read c.args.named.now _ c.loop-variable.variable-index c.variable-item.result refl c.loop-variable-test.true c.variable-item.is) c.loop-variable.invariant c.in_err-add_variable.ensures.prefix)
+pub loop-variable-init : goal.loop-variable-init
+loop-variable-init g c =
+    let out = chars (string_bytes c.args.out.now) in
+    begins out out (variables_text (seen_by g.B.Binds.bindings c.args.self.now) c.args.named.now) refl
+
+pub returns-in_err-add_variable : goal.returns-in_err-add_variable
+returns-in_err-add_variable g c = record {
+  added =
+      part_stops _ _ c.args.out.now c.loop-variable.out c.add_variable.new.out _ _ _ _ c.loop-variable.invariant
+      (left-next (variable_text (seen_by g.B.Binds.bindings c.args.self.now)) c.args.named.now c.loop-variable.variable-index c.variable-item.result
+      (slice_get_read c.args.named.now _ c.loop-variable.variable-index c.variable-item.result refl c.loop-variable-test.true c.variable-item.is))
+      c.from_residual.ensures.1 c.in_err-add_variable.ensures.added;
+}
 
 pub loop-variable-preserved : goal.loop-variable-preserved
 loop-variable-preserved g c =
-    joined_step (λ (n : Named). variable_line (table_of c.args.self.now.ops.now) (variable_seen c.args.self.now.atoms.now (g.B.Binds.bindings c.args.self.now.binds.now) c.args.self.now.cells.now.items n)) c.args.named.now c.loop-variable.variable-index c.variable-item.result _ _ _ (slice_get_read c.args.named.now _ c.loop-variable.variable-index c.variable-item.result refl c.loop-variable-test.true c.variable-item.is) c.loop-variable.invariant c.in_ok-add_variable.ensures.text
+    goes _ _ _ _ _ _ _ c.loop-variable.invariant
+    (left-next (variable_text (seen_by g.B.Binds.bindings c.args.self.now)) c.args.named.now c.loop-variable.variable-index c.variable-item.result
+    (slice_get_read c.args.named.now _ c.loop-variable.variable-index c.variable-item.result refl c.loop-variable-test.true c.variable-item.is))
+    c.in_ok-add_variable.ensures.added
 
-pub returns-clause-text : goal.returns-clause-text
-returns-clause-text g c =
-    mapped_all (variable_line (table_of c.args.self.now.ops.now)) (variable_seen c.args.self.now.atoms.now (g.B.Binds.bindings c.args.self.now.binds.now) c.args.self.now.cells.now.items) c.args.named.now c.loop-variable.variable-index _ _ c.loop-variable-test.false c.loop-variable.invariant
+pub returns : goal.returns
+returns g c = record {
+  added =
+      ends _ _ _ _ c.loop-variable.invariant (left-none (variable_text (seen_by g.B.Binds.bindings c.args.self.now)) c.args.named.now c.loop-variable.variable-index c.loop-variable-test.false);
+}

@@ -1,11 +1,10 @@
-use Rattle.std.proofs.Common.{◌≡◌, ◌++◌, chars, string_bytes, take}
-use Rattle.tp_terms.specs.declared.text.Named.{Named}
-use Rattle.tp_parse.specs.Ops.{table_of}
-use Rattle.tp_report.specs.Added.{joined_text}
-use Rattle.tp_report.specs.Report.{variable_line}
-use Rattle.tp_report.specs.Seen.{variable_seen}
+use Rattle.std.proofs.Common.{chars, string_bytes, drop}
+use Rattle.tp_terms.specs.Added.{Progress}
+use Rattle.tp_report.specs.Seen.{seen_by}
+use Rattle.tp_report.specs.Lines.{variables_text}
 use Rattle.tp_report.proofs.scene.Scene.add_variables.Given as goal
 
 abbrev pub invariant-loop-variable : goal.invariant-loop-variable
 invariant-loop-variable g l =
-    chars (string_bytes l.out) ≡ chars (string_bytes l.fn.out) ++ joined_text (λ (n : Named). variable_line (table_of l.self.ops.now) (variable_seen l.self.atoms.now (g.B.Binds.bindings l.self.binds.now) l.self.cells.now.items n)) (take l.variable-index l.named)
+    let text = variables_text (seen_by g.B.Binds.bindings l.self) in
+    Progress (chars (string_bytes l.fn.out)) (chars (string_bytes l.out)) (text l.named) (text (drop l.variable-index l.named))
