@@ -37,7 +37,7 @@ undone-more kept old now new e l lt p r i =
       log = sym (ap (take kept) l ∙ take-append-le kept new.log (e ∷ []) le) ∙ i.log;
       safe = subst (λ x. CanUndo new.log x new.rooms) (sym parts)
           (can-more new.log (undo e (parts_of now.plain)) (undo_rooms e now.rooms) new.rooms r
-           (can-before new.log (e ∷ []) (parts_of now.plain) now.rooms (subst (λ x. CanUndo x (parts_of now.plain) now.rooms) l i.safe)));
+          (can-before new.log (e ∷ []) (parts_of now.plain) now.rooms (subst (λ x. CanUndo x (parts_of now.plain) now.rooms) l i.safe)));
     }
 
 -- down to so many entries
