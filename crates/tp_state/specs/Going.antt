@@ -1,5 +1,5 @@
 -- Going on and going back in one state.
-use Rattle.std.specs.Prelude.{◌≡◌, ℕ, ◌≤◌, List, ◌++◌, length, take, drop}
+use Rattle.std.specs.Prelude.{◌≡◌, ◌≤◌, List, ◌++◌, length, take, drop}
 use Rattle.tp_control.specs.declared.choices.Marks.{Marks}
 use Rattle.tp_log.specs.declared.entry.Entry.{Entry}
 use Rattle.tp_state.specs.Plain.{Plain}

@@ -1,10 +1,10 @@
 -- What takes acts back.
-use Rattle.std.specs.Prelude.{◌≡◌, ℕ, ◌<◌, ◌≤◌, true, is_some, List, [], ◌∷◌, length, slice_get, slice_set, IfSome}
+use Rattle.std.specs.Prelude.{◌≡◌, ℕ, ◌<◌, ◌≤◌, List, [], ◌∷◌, length, slice_get, slice_set, IfSome}
 use Rattle.std.specs.List.{insert}
 use Rattle.tp_terms.specs.declared.cells.Ref.{Ref}
 use Rattle.tp_terms.specs.declared.world.Proc.{Proc}
 use Rattle.tp_terms.specs.declared.world.Slot.{Slot}
-use Rattle.tp_terms.specs.Binds.{Bindings, bound_in}
+use Rattle.tp_terms.specs.Binds.{Bindings}
 use Rattle.tp_log.specs.declared.entry.Entry.{Entry}
 use Rattle.tp_log.specs.declared.entry.Entry.TheVariants as entry
 use Rattle.tp_log.specs.Front.{front}

@@ -1,12 +1,12 @@
 -- Acts that follow each other, and the marks that were made before them.
-use Rattle.std.proofs.Common.{◌≡◌, ℕ, ◌+◌, ◌<◌, ◌≤◌, List, [], ◌∷◌, ◌++◌, length, take, drop, refl, ap, sym, subst, ◌∙◌, arith, append_assoc, length-append}
+use Rattle.std.proofs.Common.{◌≡◌, ℕ, ◌≤◌, List, [], ◌∷◌, ◌++◌, length, take, drop, refl, ap, sym, subst, ◌∙◌, arith, append_assoc, length-append}
 use Rattle.std.proofs.lemmas.List.{append-nil, take-append-le, drop-append-le, take-append-drop, take_all, drop_all, length-take-le}
 use Rattle.tp_control.specs.declared.choices.Marks.{Marks}
 use Rattle.tp_log.specs.declared.entry.Entry.{Entry}
 use Rattle.tp_state.specs.Plain.{Plain}
-use Rattle.tp_state.specs.Undo.{Parts, Rooms, Covers, Allows, CanUndo, undo, undone, undo_rooms, rooms_undone}
-use Rattle.tp_state.specs.Going.{Held, IsSafe, Prolongs, Follows, Within, Under, marks_of, parts_of, restored, rewound}
-use Rattle.tp_state.proofs.GoingBack.Logs.{undone-append, can-append, can-before, can-behind, can-more, covers-same}
+use Rattle.tp_state.specs.Undo.{Parts, Covers, Allows, CanUndo, undo, undone, undo_rooms}
+use Rattle.tp_state.specs.Going.{Held, Prolongs, Follows, Within, Under, marks_of, parts_of, restored, rewound}
+use Rattle.tp_state.proofs.GoingBack.Logs.{undone-append, can-append, can-more, covers-same}
 
 -- ---- lists that are prolonged
 

@@ -1,5 +1,5 @@
 -- Logs that are taken back in parts, and the memory that this needs.
-use Rattle.std.proofs.Common.{◌≡◌, ℕ, zero, suc, ◌+◌, ◌-◌, ◌<◌, ◌≤◌, List, [], ◌∷◌, ◌++◌, length, take, drop, get_or, refl, ap, sym, subst, ◌∙◌, arith}
+use Rattle.std.proofs.Common.{◌≡◌, ℕ, zero, suc, ◌-◌, ◌≤◌, List, [], ◌∷◌, ◌++◌, length, take, refl, ap, sym, subst, arith}
 use Rattle.tp_log.specs.declared.entry.Entry.{Entry}
 use Rattle.tp_log.specs.declared.entry.Entry.TheVariants as entry
 use Rattle.tp_log.specs.Front.{front}
