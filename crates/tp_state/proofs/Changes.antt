@@ -1,7 +1,7 @@
 -- What single acts change, and how they are taken back.
-use Rattle.std.proofs.Common.{◌≡◌, ℕ, zero, suc, ◌+◌, ◌<◌, ◌≤◌, Bool, true, false, nat_lt, nat_eq, int_lt, ◌&&◌, ◌||◌, List, [], ◌∷◌, ◌++◌, length, slice_get, slice_set, IfSome, Some, None, Option, ℤ, refl, ap, sym, subst, ◌∙◌, arith, if◌then◌else◌, cond}
+use Rattle.std.proofs.Common.{◌≡◌, ℕ, zero, suc, ◌+◌, ◌<◌, Bool, true, false, nat_lt, int_lt, ◌||◌, List, [], ◌∷◌, ◌++◌, length, slice_get, slice_set, IfSome, Some, None, Option, ℤ, refl, ap, sym, subst, ◌∙◌, arith, cond}
 use Rattle.std.specs.List.{list_any, count_by}
-use Rattle.std.proofs.lemmas.Option.{slice_get-get_or, same_Some}
+use Rattle.std.proofs.lemmas.Option.{same_Some}
 use Rattle.std.proofs.lemmas.Int.{ints}
 use Rattle.std.proofs.lemmas.List.Sums.{sum_by-cons}
 use Rattle.std.proofs.lemmas.Bool.Decides.{nat_tests}
@@ -13,11 +13,10 @@ use Rattle.tp_terms.specs.declared.world.Proc.{Proc}
 use Rattle.tp_terms.specs.declared.world.Slot.{Slot}
 use Rattle.tp_log.specs.declared.entry.Entry.{Entry}
 use Rattle.tp_log.specs.declared.entry.Entry.TheVariants as entry
-use Rattle.tp_procs.specs.Processes.{is_live, end_of, sooner, earliest}
+use Rattle.tp_procs.specs.Processes.{end_of, sooner, earliest}
 use Rattle.tp_calendar.specs.Order.{put_slot, IsFree}
-use Rattle.tp_state.specs.Plain.{Plain}
 use Rattle.tp_state.specs.Acts.{is_before, is_late, is_unmarked, mark, marked_status}
-use Rattle.tp_state.specs.Undo.{Rooms, Covers, undo_rooms}
+use Rattle.tp_state.specs.Undo.{Covers}
 use Rattle.tp_state.specs.Going.{Held, Follows, parts_of}
 use Rattle.tp_state.proofs.GoingBack.Logs.{covers-same}
 use Rattle.tp_state.proofs.GoingBack.Follows.{acts}

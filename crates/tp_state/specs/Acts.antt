@@ -1,4 +1,4 @@
--- What acts do to plain contents.
+-- What acts make of the contents of a world.
 use Rattle.std.specs.Prelude.{◌≡◌, ℕ, List, [], ◌∷◌, ◌++◌, length, map, Option, Some, None, Bool, true, false, slice_set, zero, suc, ℤ, int_lt, ◌&&◌, if◌then◌else◌}
 use Rattle.tp_terms.specs.declared.Limit.TheVariants.{At, Inf}
 use Rattle.tp_terms.specs.declared.ProcStatus.{ProcStatus}
@@ -16,23 +16,27 @@ use Rattle.tp_control.specs.Lists.{items_at}
 use Rattle.tp_procs.specs.Processes.{is_live}
 use Rattle.tp_state.specs.Plain.{Plain}
 
--- the running process has other items, one item more, or the body of a clause more, where there is one
+-- the running process has other items
 abbrev pub resting : Option ItemId → Plain → Plain
 resting rest p = record p { items = rest }
 
+-- the running process has an item more, in front of its others
 abbrev pub pushed : Item → Plain → Plain
 pushed item p = record p {
   frames = p.frames ++ (item ∷ items_at p.frames p.items) ∷ [];
   items = Some (record { at = length p.frames });
 }
 
+-- the running process has the body of a clause more, where there is one
 abbrev pub bodied : Option Ref → ℕ → Plain → Plain
 bodied None barrier p = p
 bodied (Some goal) barrier p = pushed (Goal goal barrier) p
 
 -- an event that a process makes now
 abbrev pub noted : ℕ → EventKind → Plain → Plain
-noted pid kind p = record p { events = p.events ++ record { time = p.clock; pid = pid; kind = kind } ∷ [] }
+noted pid kind p = record p {
+  events = p.events ++ record { time = p.clock; pid = pid; kind = kind } ∷ [];
+}
 
 -- a process has become this one
 abbrev pub changed : ℕ → Proc → Plain → Plain
@@ -62,7 +66,7 @@ begun pid q p = record p { procs = slice_set p.procs pid (record q { started = t
 abbrev pub opened : ℕ → Proc → Plain → Plain
 opened pid q p = if q.started then p else begun pid q (noted pid event.Start p)
 
--- a parked process is marked
+-- the status of a parked process once it is marked, and each other status
 abbrev pub marked_status : ProcStatus → ProcStatus
 marked_status (Parked m) = Parked true
 marked_status Scheduled = Scheduled
@@ -70,20 +74,27 @@ marked_status Running = Running
 marked_status AwaitsMail = AwaitsMail
 marked_status Ended = Ended
 
+-- a process, marked where it is parked
 abbrev pub mark : Proc → Proc
 mark q = record q { status = marked_status q.status }
 
 -- a process is parked and not marked
 abbrev pub is_unmarked : Proc → Bool
-is_unmarked q = elim (q.status) [ Parked m ↦ if m then false else true | Scheduled ↦ false | Running ↦ false | AwaitsMail ↦ false | Ended ↦ false ]
+is_unmarked q = elim (q.status) [
+  | Parked m ↦ if m then false else true
+  | Scheduled ↦ false
+  | Running ↦ false
+  | AwaitsMail ↦ false
+  | Ended ↦ false
+]
 
--- each parked process is marked, but for one
+-- each parked process is marked, but for that of a number
 abbrev pub mark_others : ℕ → List Proc → List Proc
 mark_others n [] = []
 mark_others zero (q ∷ qs) = q ∷ map mark qs
 mark_others (suc n) (q ∷ qs) = mark q ∷ mark_others n qs
 
--- the time of the first entry, where there is one
+-- a time is that of the first entry of a calendar, and none where there is no entry
 abbrev pub IsNextTime : List Slot → Option ℤ → Type 0
 IsNextTime [] time = time ≡ None
 IsNextTime (e ∷ es) time = time ≡ Some e.time

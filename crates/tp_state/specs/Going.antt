@@ -1,5 +1,5 @@
 -- Going on and going back in one state.
-use Rattle.std.specs.Prelude.{◌≡◌, ℕ, ◌≤◌, List, ◌++◌, length, take, drop}
+use Rattle.std.specs.Prelude.{◌≡◌, ◌≤◌, List, ◌++◌, length, take, drop}
 use Rattle.tp_control.specs.declared.choices.Marks.{Marks}
 use Rattle.tp_terms.specs.declared.cells.Cell.{Cell}
 use Rattle.tp_terms.specs.Binds.{Bindings}
@@ -15,10 +15,11 @@ pub record Held : Type 0 where
   pub log : List Entry
   pub rooms : Rooms
 
--- what the log takes back
+-- the parts of contents that the log takes back
 abbrev pub parts_of : Plain → Parts
 parts_of p = record { pairs = p.store.pairs; procs = p.procs; slots = p.slots; boxes = p.boxes }
 
+-- contents with other such parts
 abbrev pub with_parts : Parts → Plain → Plain
 with_parts parts p = record {
   store = record { cells = p.store.cells; pairs = parts.pairs; vars = p.store.vars };
@@ -68,11 +69,15 @@ pub record Under (m n : Marks) : Type 0 where
   pub events : n.events ≤ m.events
   pub log : n.log ≤ m.log
 
--- The contents at marks: what was logged since is taken back, what was added since is cut off, and the numbers are
--- those of the marks.
+-- Contents whose parts are these, of which what was added since the marks is cut off, and whose
+-- numbers are those of the marks.
 abbrev pub restored : Plain → Parts → Marks → Plain
 restored p parts m = record {
-  store = record { cells = take m.store.cells p.store.cells; pairs = parts.pairs; vars = m.store.vars };
+  store = record {
+    cells = take m.store.cells p.store.cells;
+    pairs = parts.pairs;
+    vars = m.store.vars;
+  };
   frames = take m.items p.frames;
   procs = parts.procs;
   slots = parts.slots;
@@ -84,6 +89,8 @@ restored p parts m = record {
   items = m.first;
 }
 
+-- The contents at marks: what was logged since is taken back, what was added since is cut off, and
+-- the numbers are those of the marks.
 abbrev pub rewound : Held → Marks → Plain
 rewound h m = restored h.plain (undone (drop m.log h.log) (parts_of h.plain)) m
 
@@ -93,7 +100,8 @@ rewound h m = restored h.plain (undone (drop m.log h.log) (parts_of h.plain)) m
 abbrev pub Prolongs : {A : Type 0} → List A → List A → Type 0
 Prolongs {A = A} old new = (more : List A) × (new ≡ old ++ more)
 
--- Acts lead from what is held to what is held: their entries take back what they changed, and all else was added.
+-- Acts lead from the old to the new: their entries take back what they changed, and all else was
+-- added.
 pub record Follows (old new : Held) : Type 0 where
   pub entries : List Entry
   pub log : new.log ≡ old.log ++ entries

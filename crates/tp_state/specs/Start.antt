@@ -20,7 +20,7 @@ main_with items = record {
   items = Some items;
 }
 
--- `main` waits for its start with a goal
+-- contents in which `main` waits for its start with a goal
 abbrev pub waiting_at : Contents → Ref → Plain
 waiting_at c goal = record {
   store = c;

@@ -3,7 +3,7 @@ use Rattle.tp_state.specs.declared.state.State.{State}
 use Rattle.tp_state.specs.Plain.{Plain}
 use Rattle.tp_state.specs.Going.{Held}
 
--- the contents of the world
+-- the contents of the world that a state stands at
 abbrev pub plain_of : State → Plain
 plain_of s = record {
   store = s.store;
@@ -18,7 +18,7 @@ plain_of s = record {
   items = s.items;
 }
 
--- and how they are taken back
+-- the contents with the log and the memory that is kept, as going back needs them
 abbrev pub held_of : State → Held
 held_of s = record {
   plain = plain_of s;

@@ -1,10 +1,10 @@
 -- What takes acts back.
-use Rattle.std.specs.Prelude.{◌≡◌, ℕ, ◌<◌, ◌≤◌, true, is_some, List, [], ◌∷◌, length, slice_get, slice_set, IfSome}
+use Rattle.std.specs.Prelude.{◌≡◌, ℕ, ◌<◌, ◌≤◌, List, [], ◌∷◌, length, slice_get, slice_set, IfSome}
 use Rattle.std.specs.List.{insert}
 use Rattle.tp_terms.specs.declared.cells.Ref.{Ref}
 use Rattle.tp_terms.specs.declared.world.Proc.{Proc}
 use Rattle.tp_terms.specs.declared.world.Slot.{Slot}
-use Rattle.tp_terms.specs.Binds.{Bindings, bound_in}
+use Rattle.tp_terms.specs.Binds.{Bindings}
 use Rattle.tp_log.specs.declared.entry.Entry.{Entry}
 use Rattle.tp_log.specs.declared.entry.Entry.TheVariants as entry
 use Rattle.tp_log.specs.Front.{front}
@@ -12,8 +12,8 @@ use Rattle.tp_store.specs.Logged.{without_pair, IsBound}
 use Rattle.tp_calendar.specs.Order.{put_slot, without_slot, IsFree}
 use Rattle.tp_mail.specs.Mail.{at_box, box_of, room_of, AllAtMost}
 
--- The parts of a world that acts change otherwise than by adding to them: bindings, the newest first, processes,
--- entries of the calendar, and boxes.
+-- The parts of a world that acts change otherwise than by adding to them: bindings, the newest
+-- first, processes, entries of the calendar, and boxes.
 pub record Parts : Type 0 where
   pub pairs : Bindings
   pub procs : List Proc
@@ -44,7 +44,7 @@ pub record Rooms : Type 0 where
   pub slots : ℕ
   pub boxes : List ℕ
 
--- a box goes with its memory
+-- the memory after the act of an entry is taken back: a box goes with its memory
 abbrev pub undo_rooms : Entry → Rooms → Rooms
 undo_rooms (entry.Bind v) r = r
 undo_rooms entry.Made r = r
@@ -55,11 +55,12 @@ undo_rooms entry.BoxMade r = record r { boxes = front r.boxes }
 undo_rooms (entry.Sent pid) r = r
 undo_rooms (entry.Received pid place message) r = r
 
+-- the memory after the acts of a log are taken back
 abbrev pub rooms_undone : List Entry → Rooms → Rooms
 rooms_undone [] r = r
 rooms_undone (e ∷ es) r = undo_rooms e (rooms_undone es r)
 
--- there is at least as much memory
+-- the second has at least as much memory for everything
 pub record Covers (less more : Rooms) : Type 0 where
   pub slots : less.slots ≤ more.slots
   pub boxes : AllAtMost less.boxes more.boxes

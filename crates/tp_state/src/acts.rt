@@ -1,4 +1,5 @@
-//! Acts on a state.
+//! Acts on a state. Where an act changes bindings, processes, the calendar or boxes, it adds to the
+//! log what takes it back.
 
 ghost use Rattle.std.specs.Prelude.{◌≡◌, ◌≢◌, ◌<◌, length, slice_get, slice_set, Some, IfSome, IfOk, OnOk, List, ◌∷◌};
 ghost use Rattle.tp_terms.specs.declared.world.Proc.{Proc};
@@ -39,7 +40,7 @@ impl State {
 
     // ---- the running process
 
-    /// The running process has other items.
+    /// The running process has other items. Takes no memory.
     pub fn rest(&mut self, items: Option<ItemId>)
         ensures plain { plain_of self.new ≡ resting items (plain_of self.old) }
         ensures follows { Follows (held_of self.old) (held_of self.new) }
@@ -47,7 +48,10 @@ impl State {
         self.items = items;
     }
 
-    /// The running process has an item more.
+    /// The running process has an item more, in front of its others.
+    ///
+    /// Answers `NoMemory` where memory is refused. What is held is left open then, and the run must
+    /// not go on.
     pub fn push(&mut self, item: Item) -> Result<(), NoMemory>
         requires { IfSome self.old.items (λ i. i.at < length self.old.frames) }
         ensures plain { OnOk result (plain_of self.new ≡ pushed item (plain_of self.old)) }
@@ -58,7 +62,10 @@ impl State {
         Ok(())
     }
 
-    /// The running process has the body of a clause more, where there is one.
+    /// The running process has the body of a clause more, where there is one, with its barrier.
+    ///
+    /// Answers `NoMemory` where memory is refused. What is held is left open then, and the run must
+    /// not go on.
     pub fn push_body(&mut self, body: Option<Ref>, barrier: u64) -> Result<(), NoMemory>
         requires { IfSome self.old.items (λ i. i.at < length self.old.frames) }
         ensures plain { OnOk result (plain_of self.new ≡ bodied body barrier (plain_of self.old)) }
@@ -72,7 +79,10 @@ impl State {
 
     // ---- processes
 
-    /// A process is changed. Its name stays.
+    /// A process becomes this one. Its name stays.
+    ///
+    /// Answers `NoMemory` where memory is refused. What is held is left open then, and the run must
+    /// not go on.
     pub fn change(&mut self, pid: usize, proc: Proc) -> Result<(), NoMemory>
         requires pid { pid < length self.old.procs }
         requires name { IfSome (slice_get self.old.procs pid) (λ old. old.name ≡ proc.name) }
@@ -83,7 +93,11 @@ impl State {
         Ok(())
     }
 
-    /// The running process goes on later, or not at all, with this status.
+    /// The running process goes on later, or not at all, with this status: its items stand in the
+    /// list of processes then, and no process runs.
+    ///
+    /// Answers `NoMemory` where memory is refused. What is held is left open then, and the run must
+    /// not go on.
     pub fn leave(&mut self, pid: usize, status: ProcStatus) -> Result<(), NoMemory>
         requires { pid < length self.old.procs }
         ensures plain { OnOk result ((q : Proc) → slice_get self.old.procs pid ≡ Some q →
@@ -105,7 +119,10 @@ impl State {
         Ok(())
     }
 
-    /// A process runs.
+    /// A process runs, with the items that it has.
+    ///
+    /// Answers `NoMemory` where memory is refused. What is held is left open then, and the run must
+    /// not go on.
     pub fn run(&mut self, pid: usize) -> Result<(), NoMemory>
         requires { pid < length self.old.procs }
         ensures plain { OnOk result ((q : Proc) → slice_get self.old.procs pid ≡ Some q →
@@ -126,6 +143,9 @@ impl State {
     }
 
     /// A process is marked, where it is parked.
+    ///
+    /// Answers `NoMemory` where memory is refused. What is held is left open then, and the run must
+    /// not go on.
     fn mark(&mut self, pid: usize) -> Result<(), NoMemory>
         requires { pid < length self.old.procs }
         ensures plain { OnOk result ((q : Proc) → slice_get self.old.procs pid ≡ Some q →
@@ -139,7 +159,10 @@ impl State {
         Ok(())
     }
 
-    /// Marks each process that is parked, but for one.
+    /// Marks each process that is parked, but for that of a number.
+    ///
+    /// Answers `NoMemory` where memory is refused. What is held is left open then, and the run must
+    /// not go on.
     pub fn mark_others(&mut self, pid: usize) -> Result<(), NoMemory>
         ensures plain { OnOk result (plain_of self.new ≡ record (plain_of self.old) {
           procs = mark_others pid self.old.procs;
@@ -157,6 +180,9 @@ impl State {
     // ---- events and the calendar
 
     /// Adds an event that a process makes now.
+    ///
+    /// Answers `NoMemory` where memory is refused. What is held is left open then, and the run must
+    /// not go on.
     pub fn note(&mut self, pid: usize, kind: EventKind) -> Result<(), NoMemory>
         ensures plain { OnOk result (plain_of self.new ≡ noted pid kind (plain_of self.old)) }
         ensures follows { OnOk result (Follows (held_of self.old) (held_of self.new)) }
@@ -169,7 +195,10 @@ impl State {
         Ok(())
     }
 
-    /// A process that hadn't started has now.
+    /// A process has started: where it hadn't, the history has an event more, that it starts now.
+    ///
+    /// Answers `NoMemory` where memory is refused. What is held is left open then, and the run must
+    /// not go on.
     pub fn open(&mut self, pid: usize) -> Result<(), NoMemory>
         requires { pid < length self.old.procs }
         ensures plain { OnOk result ((q : Proc) → slice_get self.old.procs pid ≡ Some q →
@@ -191,7 +220,10 @@ impl State {
         Ok(())
     }
 
-    /// The time comes to the first entry of the calendar, whose process is answered.
+    /// The time comes to the first entry of the calendar, which goes. Answers its process.
+    ///
+    /// Answers `NoMemory` where memory is refused. What is held is left open then, and the run must
+    /// not go on.
     pub fn take_slot(&mut self) -> Result<usize, NoMemory>
         requires { 0 < length self.old.calendar.slots }
         ensures plain { IfOk result (λ pid. (e : Slot) (es : List Slot) →

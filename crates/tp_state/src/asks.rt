@@ -1,4 +1,4 @@
-//! What is asked of a state.
+//! What a scheduler asks of a state. Each call takes constant time.
 
 ghost use Rattle.std.specs.Prelude.{◌≡◌, ◌<◌, length, position, slice_get, Some};
 ghost use Rattle.std.specs.List.{list_any};
@@ -37,7 +37,7 @@ impl State {
         self.procs.get(pid).started
     }
 
-    /// The time of the first entry of the calendar.
+    /// The time of the first entry of the calendar, if there is one.
     pub fn next_time(&self) -> Option<i64>
         ensures { IsNextTime self.now.calendar.slots result }
     {
@@ -47,7 +47,7 @@ impl State {
         }
     }
 
-    /// The first process that is parked and marked.
+    /// The number of the first process that is parked and marked, if there is one.
     pub fn first_marked(&self) -> Option<usize>
         ensures { result ≡ position is_marked self.now.procs }
     {

@@ -12,7 +12,7 @@ impl State {
     ghost use Rattle.tp_state.specs.Undo.{Allows, Covers, undo, undo_rooms, undone};
     ghost use Rattle.tp_state.specs.Going.{IsSafe, Within, marks_of, parts_of, rewound, with_parts};
 
-    /// How much there is now of each part, and the numbers of now.
+    /// How much there is now of each part, and the numbers of now: by them `rewind` goes back here.
     pub fn marks(&self) -> Marks
         ensures { result ≡ marks_of (held_of self.now) }
     {
@@ -28,7 +28,7 @@ impl State {
         }
     }
 
-    /// Takes the act of an entry back.
+    /// Takes the act of an entry back. Takes no memory.
     fn undo(&mut self, entry: Entry)
         requires { Allows entry (parts_of (plain_of self.old)) (held_of self.old).rooms }
         ensures plain { plain_of self.new
@@ -52,12 +52,12 @@ impl State {
         }
     }
 
-    /// Takes the acts of all entries above so many back.
+    /// Takes the acts of all entries above so many back, the last one first. Takes no memory.
     fn undo_above(&mut self, kept: usize)
         requires { IsSafe (held_of self.old) }
         ensures plain { plain_of self.new
             ≡ with_parts (undone (drop kept self.old.log) (parts_of (plain_of self.old)))
-                (plain_of self.old) }
+            (plain_of self.old) }
         ensures log { self.new.log ≡ take kept self.old.log }
         ensures safe { IsSafe (held_of self.new) }
     {
@@ -66,7 +66,8 @@ impl State {
         }
     }
 
-    /// Goes back to marks. Takes no memory.
+    /// Goes back to marks: what was logged since is taken back, what was added since is cut off,
+    /// and the numbers are those of the marks. Takes no memory.
     pub fn rewind(&mut self, marks: &Marks)
         requires within { Within marks.now (held_of self.old) }
         requires safe { IsSafe (held_of self.old) }

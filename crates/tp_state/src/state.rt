@@ -37,7 +37,7 @@ pub struct State {
     pub clock: i64,
     /// The number of the next entry of the calendar.
     pub insertion: u64,
-    /// The running process.
+    /// The number of the running process, if one runs.
     pub running: Option<usize>,
     /// What the running process has to do. It stands in the list of processes only once the
     /// process goes on later.
@@ -60,7 +60,7 @@ fn main_with(items: ItemId) -> Proc
 impl State {
     /// Contents in which `main` waits for its start with a goal.
     ///
-    /// Answers `NoMemory` where the memory for it isn't had.
+    /// Answers `NoMemory` where memory is refused. There is no state then.
     pub fn waiting(alloc: Global, store: Store, goal: Ref) -> Result<State, NoMemory>
         ensures plain { IfOk result (λ s. plain_of s ≡ waiting_at store goal) }
         ensures log { IfOk result (λ s. s.log ≡ []) }

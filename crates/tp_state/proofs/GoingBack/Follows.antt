@@ -1,12 +1,12 @@
 -- Acts that follow each other, and the marks that were made before them.
-use Rattle.std.proofs.Common.{◌≡◌, ℕ, ◌+◌, ◌<◌, ◌≤◌, List, [], ◌∷◌, ◌++◌, length, take, drop, refl, ap, sym, subst, ◌∙◌, arith, append_assoc, length-append}
+use Rattle.std.proofs.Common.{◌≡◌, ℕ, ◌≤◌, List, [], ◌∷◌, ◌++◌, length, take, drop, refl, ap, sym, subst, ◌∙◌, arith, append_assoc, length-append}
 use Rattle.std.proofs.lemmas.List.{append-nil, take-append-le, drop-append-le, take-append-drop, take_all, drop_all, length-take-le}
 use Rattle.tp_control.specs.declared.choices.Marks.{Marks}
 use Rattle.tp_log.specs.declared.entry.Entry.{Entry}
 use Rattle.tp_state.specs.Plain.{Plain}
-use Rattle.tp_state.specs.Undo.{Parts, Rooms, Covers, Allows, CanUndo, undo, undone, undo_rooms, rooms_undone}
-use Rattle.tp_state.specs.Going.{Held, IsSafe, Prolongs, Follows, Within, Under, marks_of, parts_of, restored, rewound}
-use Rattle.tp_state.proofs.GoingBack.Logs.{undone-append, can-append, can-before, can-behind, can-more, covers-same}
+use Rattle.tp_state.specs.Undo.{Parts, Covers, Allows, CanUndo, undo, undone, undo_rooms}
+use Rattle.tp_state.specs.Going.{Held, Prolongs, Follows, Within, Under, marks_of, parts_of, restored, rewound}
+use Rattle.tp_state.proofs.GoingBack.Logs.{undone-append, can-append, can-more, covers-same}
 
 -- ---- lists that are prolonged
 
@@ -50,8 +50,8 @@ acts old new e l p allows r cells vars frames events = record {
   events = ([], events ∙ sym (append-nil old.plain.events));
   safe = λ s. subst (λ es. CanUndo es (parts_of new.plain) new.rooms) (sym l)
       (can-append old.log (e ∷ []) (parts_of new.plain) new.rooms
-       (subst (λ q. CanUndo old.log q (undo_rooms e new.rooms)) (sym p) (can-more old.log (parts_of old.plain) old.rooms (undo_rooms e new.rooms) r s))
-       (allows, tt));
+      (subst (λ q. CanUndo old.log q (undo_rooms e new.rooms)) (sym p) (can-more old.log (parts_of old.plain) old.rooms (undo_rooms e new.rooms) r s))
+      (allows, tt));
 }
 
 -- no act
@@ -95,7 +95,7 @@ pub rewound-later : (old new : Held) (m : Marks) → Follows old new → Within 
 rewound-later old new m f w =
     restored-by new.plain old.plain (undone (drop m.log new.log) (parts_of new.plain)) (undone (drop m.log old.log) (parts_of old.plain)) m
     (ap (λ es. undone es (parts_of new.plain)) (ap (drop m.log) f.log ∙ drop-append-le m.log old.log f.entries w.log)
-     ∙ undone-append (drop m.log old.log) f.entries (parts_of new.plain) ∙ ap (undone (drop m.log old.log)) f.back)
+    ∙ undone-append (drop m.log old.log) f.entries (parts_of new.plain) ∙ ap (undone (drop m.log old.log)) f.back)
     (take-prolonged m.store.cells old.plain.store.cells new.plain.store.cells w.cells f.cells)
     (take-prolonged m.items old.plain.frames new.plain.frames w.items f.frames)
     (take-prolonged m.events old.plain.events new.plain.events w.events f.events)
@@ -137,9 +137,9 @@ pub rewound-twice : (old new : Held) (m n : Marks) → WentBack old new m → Wi
 rewound-twice old new m n b w u =
     restored-by new.plain old.plain (undone (drop n.log new.log) (parts_of new.plain)) (undone (drop n.log old.log) (parts_of old.plain)) n
     (ap (λ es. undone (drop n.log es) (parts_of new.plain)) b.log
-     ∙ ap (λ p. undone (drop n.log (take m.log old.log)) (parts_of p)) b.plain
-     ∙ sym (undone-append (drop n.log (take m.log old.log)) (drop m.log old.log) (parts_of old.plain))
-     ∙ ap (λ es. undone es (parts_of old.plain)) (drop-twice n.log m.log old.log u.log w.log))
+    ∙ ap (λ p. undone (drop n.log (take m.log old.log)) (parts_of p)) b.plain
+    ∙ sym (undone-append (drop n.log (take m.log old.log)) (drop m.log old.log) (parts_of old.plain))
+    ∙ ap (λ es. undone es (parts_of old.plain)) (drop-twice n.log m.log old.log u.log w.log))
     (ap (λ (p : Plain). take n.store.cells p.store.cells) b.plain ∙ take-twice n.store.cells m.store.cells old.plain.store.cells u.cells w.cells)
     (ap (λ (p : Plain). take n.items p.frames) b.plain ∙ take-twice n.items m.items old.plain.frames u.items w.items)
     (ap (λ (p : Plain). take n.events p.events) b.plain ∙ take-twice n.events m.events old.plain.events u.events w.events)

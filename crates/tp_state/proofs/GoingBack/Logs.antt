@@ -1,5 +1,5 @@
 -- Logs that are taken back in parts, and the memory that this needs.
-use Rattle.std.proofs.Common.{◌≡◌, ℕ, zero, suc, ◌+◌, ◌-◌, ◌<◌, ◌≤◌, List, [], ◌∷◌, ◌++◌, length, take, drop, get_or, refl, ap, sym, subst, ◌∙◌, arith}
+use Rattle.std.proofs.Common.{◌≡◌, ℕ, zero, suc, ◌-◌, ◌≤◌, List, [], ◌∷◌, ◌++◌, length, take, refl, ap, sym, subst, arith}
 use Rattle.tp_log.specs.declared.entry.Entry.{Entry}
 use Rattle.tp_log.specs.declared.entry.Entry.TheVariants as entry
 use Rattle.tp_log.specs.Front.{front}
@@ -20,16 +20,20 @@ rooms-append (e ∷ xs) ys r = ap (undo_rooms e) (rooms-append xs ys r)
 -- two logs can be taken back, where the later one can, and then the earlier one
 pub can-append : (xs ys : List Entry) (p : Parts) (r : Rooms) → CanUndo xs (undone ys p) (rooms_undone ys r) → CanUndo ys p r → CanUndo (xs ++ ys) p r
 can-append [] ys p r h k = k
-can-append (e ∷ xs) ys p r h k =
-    (subst (λ q. Allows e q (rooms_undone (xs ++ ys) r)) (sym (undone-append xs ys p))
-     (subst (Allows e (undone xs (undone ys p))) (sym (rooms-append xs ys r)) h.0), can-append xs ys p r h.1 k)
+can-append (e ∷ xs) ys p r h k = (
+  subst (λ q. Allows e q (rooms_undone (xs ++ ys) r)) (sym (undone-append xs ys p))
+      (subst (Allows e (undone xs (undone ys p))) (sym (rooms-append xs ys r)) h.0),
+  can-append xs ys p r h.1 k,
+)
 
 -- and the other way round
 pub can-before : (xs ys : List Entry) (p : Parts) (r : Rooms) → CanUndo (xs ++ ys) p r → CanUndo xs (undone ys p) (rooms_undone ys r)
 can-before [] ys p r h = tt
-can-before (e ∷ xs) ys p r h =
-    (subst (λ q. Allows e q (rooms_undone xs (rooms_undone ys r))) (undone-append xs ys p)
-     (subst (Allows e (undone (xs ++ ys) p)) (rooms-append xs ys r) h.0), can-before xs ys p r h.1)
+can-before (e ∷ xs) ys p r h = (
+  subst (λ q. Allows e q (rooms_undone xs (rooms_undone ys r))) (undone-append xs ys p)
+      (subst (Allows e (undone (xs ++ ys) p)) (rooms-append xs ys r) h.0),
+  can-before xs ys p r h.1,
+)
 
 pub can-behind : (xs ys : List Entry) (p : Parts) (r : Rooms) → CanUndo (xs ++ ys) p r → CanUndo ys p r
 can-behind [] ys p r h = h

@@ -1,9 +1,8 @@
 -- Entries that are taken back one by one, the last one first.
-use Rattle.std.proofs.Common.{◌≡◌, ℕ, ◌+◌, ◌<◌, ◌≤◌, List, [], ◌∷◌, ◌++◌, length, take, drop, refl, ap, sym, subst, ◌∙◌, arith, length-append}
+use Rattle.std.proofs.Common.{◌≡◌, ℕ, ◌<◌, ◌≤◌, List, [], ◌∷◌, ◌++◌, length, take, drop, refl, ap, sym, subst, ◌∙◌, arith, length-append}
 use Rattle.std.proofs.lemmas.List.{take-append-le, drop-append-le, take_all, drop_all}
 use Rattle.tp_log.specs.declared.entry.Entry.{Entry}
-use Rattle.tp_state.specs.Plain.{Plain}
-use Rattle.tp_state.specs.Undo.{Parts, Rooms, Covers, Allows, CanUndo, undo, undone, undo_rooms}
+use Rattle.tp_state.specs.Undo.{Covers, Allows, CanUndo, undo, undone, undo_rooms}
 use Rattle.tp_state.specs.Going.{Held, IsSafe, parts_of, with_parts}
 use Rattle.tp_state.proofs.GoingBack.Logs.{undone-append, can-before, can-behind, can-more}
 
@@ -37,7 +36,7 @@ undone-more kept old now new e l lt p r i =
       log = sym (ap (take kept) l ∙ take-append-le kept new.log (e ∷ []) le) ∙ i.log;
       safe = subst (λ x. CanUndo new.log x new.rooms) (sym parts)
           (can-more new.log (undo e (parts_of now.plain)) (undo_rooms e now.rooms) new.rooms r
-           (can-before new.log (e ∷ []) (parts_of now.plain) now.rooms (subst (λ x. CanUndo x (parts_of now.plain) now.rooms) l i.safe)));
+          (can-before new.log (e ∷ []) (parts_of now.plain) now.rooms (subst (λ x. CanUndo x (parts_of now.plain) now.rooms) l i.safe)));
     }
 
 -- down to so many entries

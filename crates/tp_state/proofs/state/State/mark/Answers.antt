@@ -1,4 +1,4 @@
-use Rattle.std.proofs.Common.{slice_set, Some, ap, sym, ◌∙◌}
+use Rattle.std.proofs.Common.{slice_set, ap, sym, ◌∙◌}
 use Rattle.std.proofs.lemmas.Option.{same_Some}
 use Rattle.tp_state.specs.Acts.{is_unmarked}
 use Rattle.tp_state.specs.State.{plain_of}

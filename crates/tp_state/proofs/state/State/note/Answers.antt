@@ -1,4 +1,4 @@
-use Rattle.std.proofs.Common.{[], ◌∷◌, refl, arith}
+use Rattle.std.proofs.Common.{refl, arith}
 use Rattle.tp_state.proofs.GoingBack.Logs.{covers-same}
 use Rattle.tp_state.proofs.GoingBack.Follows.{adds, prolongs-same}
 use Rattle.tp_state.proofs.state.State.note.Goals as goal

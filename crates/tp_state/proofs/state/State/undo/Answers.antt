@@ -1,6 +1,5 @@
-use Rattle.std.proofs.Common.{sym, ap, subst}
+use Rattle.std.proofs.Common.{sym, ap}
 use Rattle.tp_state.specs.State.{held_of}
-use Rattle.tp_state.specs.Undo.{Rooms, Covers, undo_rooms}
 use Rattle.tp_state.proofs.GoingBack.Logs.{covers-same, covers-as, covers-rooms, covers-slots}
 use Rattle.tp_state.proofs.state.State.undo.Goals as goal
 
