@@ -40,12 +40,14 @@ choices_stay names base old new cs h =
 
 fit_stays : (names : List Name) (base : Base) (old new : Held) (cs : List Choice) → AllByRecursion (StaysAt old new) cs → AllByRecursion (ChoiceFits names base old) cs → AllByRecursion (ChoiceFits names base new) cs
 fit_stays names base old new [] h k = tt
-fit_stays names base old new (c ∷ cs) h k =
-    (record {
-       within = h.0.within;
-       stands = subst (PlainStands names) (sym h.0.same) k.0.stands;
-       next = subst (λ p. GoesOn names base p c.next) (sym h.0.same) k.0.next;
-     }, fit_stays names base old new cs h.1 k.1)
+fit_stays names base old new (c ∷ cs) h k = (
+  record {
+    within = h.0.within;
+    stands = subst (PlainStands names) (sym h.0.same) k.0.stands;
+    next = subst (λ p. GoesOn names base p c.next) (sym h.0.same) k.0.next;
+  },
+  fit_stays names base old new cs h.1 k.1,
+)
 
 -- and they fit still
 pub fits_stay : (names : List Name) (base : Base) (old new : Held) (cs : List Choice) → AllByRecursion (StaysAt old new) cs → ChoicesFit names base old cs → ChoicesFit names base new cs
@@ -64,10 +66,10 @@ pub fits_later : (old new : List Name) → Grows old new → (base : Base) (h : 
 fits_later old new grows base h cs k = record {
   fits = all-weaker (ChoiceFits old base h) (ChoiceFits new base h)
       (λ c f. record {
-         within = f.within;
-         stands = stands-later old new grows (rewound h c.marks) f.stands;
-         next = goes_on-later old new grows base (rewound h c.marks) c.next f.stands f.next;
-       }) cs k.fits;
+        within = f.within;
+        stands = stands-later old new grows (rewound h c.marks) f.stands;
+        next = goes_on-later old new grows base (rewound h c.marks) c.next f.stands f.next;
+      }) cs k.fits;
   rise = k.rise;
 }
 
@@ -86,11 +88,14 @@ pub fits_push : (names : List Name) (base : Base) (h : Held) (cs : List Choice) 
 fits_push names base h cs c e s g k =
     let here : rewound h c.marks ≡ h.plain = ap (rewound h) e ∙ rewound-now h in
     record {
-      fits = all-append (ChoiceFits names base h) cs (c ∷ []) k.fits (record {
-        within = subst (λ m. Within m h) (sym e) (within-now h);
-        stands = subst (PlainStands names) (sym here) s;
-        next = subst (λ p. GoesOn names base p c.next) (sym here) g;
-      }, tt);
+      fits = all-append (ChoiceFits names base h) cs (c ∷ []) k.fits (
+        record {
+          within = subst (λ m. Within m h) (sym e) (within-now h);
+          stands = subst (PlainStands names) (sym here) s;
+          next = subst (λ p. GoesOn names base p c.next) (sym here) g;
+        },
+        tt,
+      );
       rise = rise_push cs c k.rise (all-weaker (ChoiceFits names base h) (λ (d : Choice). Under c.marks d.marks)
           (λ d f. subst (λ m. Under m d.marks) (sym e) (record { cells = f.within.cells; vars = f.within.vars; items = f.within.items; events = f.within.events; log = f.within.log })) cs k.fits);
     }

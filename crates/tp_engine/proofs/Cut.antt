@@ -50,7 +50,7 @@ module _ (names : List Name) (base : Base) (h : Held) (stamp : ℕ) where
       let rest = later c ds e a.1 in (
         ap (λ b. cond b (d ∷ filter (is_before stamp) ds) (filter (is_before stamp) ds)) no ∙ rest.0,
         subst (AllByRecursion (λ (x : machine.Choice World). nat_lt x.stamp stamp ≡ false)) (sym (oldest d ds))
-        (all-append (λ (x : machine.Choice World). nat_lt x.stamp stamp ≡ false) (choices_of names base h ds) (choice_of names base h d ∷ []) rest.1 (no, tt)),
+            (all-append (λ (x : machine.Choice World). nat_lt x.stamp stamp ≡ false) (choices_of names base h ds) (choice_of names base h d ∷ []) rest.1 (no, tt)),
       )
 
   pub cut_is : (cs : List Choice) → StampsRise cs → choices_of names base h (filter (is_before stamp) cs) ≡ cut_from stamp (choices_of names base h cs)
@@ -70,4 +70,4 @@ module _ (names : List Name) (base : Base) (h : Held) (stamp : ℕ) where
           ∙ ap (choices_of names base h) rest.0
           ∙ sym (ap (cut_from stamp) (oldest c cs)
           ∙ all-go (choices_of names base h cs ++ choice_of names base h c ∷ [])
-            (all-append (λ (x : machine.Choice World). nat_lt x.stamp stamp ≡ false) (choices_of names base h cs) (choice_of names base h c ∷ []) rest.1 (e, tt)))
+          (all-append (λ (x : machine.Choice World). nat_lt x.stamp stamp ≡ false) (choices_of names base h cs) (choice_of names base h c ∷ []) rest.1 (e, tt)))

@@ -151,8 +151,8 @@ module _ (names : List Name) (goal : ℕ) (cells : List Cell) (t : ClauseView) (
   unified h =
       was_found met (subst_of names new) (unifier names old goal (head_term names cells t))
       (sym (ap (λ (c : Contents). mgu (subst_of names c) (shows names c.cells goal) (renamed base (head_term names cells t))) vars
-            ∙ ap (λ b. mgu (subst_of names old) (shows names old.cells goal) (renamed b (head_term names cells t))) first)
-       ∙ found) h
+      ∙ ap (λ b. mgu (subst_of names old) (shows names old.cells goal) (renamed b (head_term names cells t))) first)
+      ∙ found) h
 
   new_vars : new.vars ≡ old.vars + t.vars
   new_vars = logged.vars ∙ ap (λ (c : Contents). c.vars) vars

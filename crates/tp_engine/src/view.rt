@@ -3,10 +3,10 @@
 ghost use Rattle.std.specs.Prelude.{◌≡◌, ℕ, ◌<◌, length, map, slice_get, Some};
 
 use crate::machine::Machine;
-use tp_state::State;
 use std::marker::Model;
 use tp_history::Events;
 use tp_parse::Ops;
+use tp_state::State;
 use tp_store::Store;
 use tp_terms::{AtomId, Atoms, Cells, Named};
 

@@ -1,7 +1,7 @@
 //! The history of a world: its events, in the order in which they came.
 #![tactic(auto)]
 
-ghost use Rattle.std.specs.Prelude.{◌≡◌, ◌++◌, ◌∷◌, [], length, take, nat_eq, slice_get, IfOk, OnErr, OnOk};
+ghost use Rattle.std.specs.Prelude.{◌≡◌, ◌++◌, ◌∷◌, [], length, take, nat_eq, slice_get, OnErr, OnOk};
 
 use std::alloc::Global;
 use std::marker::Model;
@@ -70,18 +70,5 @@ impl Events {
         ensures { self.new ≡ take len self.old }
     {
         self.events.truncate(len);
-    }
-
-    /// The same events again.
-    ///
-    /// # Errors
-    /// `NoMemory` where memory was refused.
-    pub fn copy_all(&self) -> Result<Events, NoMemory>
-        ensures { IfOk result (λ copy. copy ≡ self.now) }
-    {
-        let alloc = *self.events.allocator();
-        Ok(Events {
-            events: Vec::from_slice(alloc, self.events.as_slice())?,
-        })
     }
 }

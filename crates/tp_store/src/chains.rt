@@ -31,17 +31,6 @@ pub struct End {
     pub cell: Cell,
 }
 
-/// The same cells again.
-fn copy_cells(alloc: Global, cells: &Cells) -> Result<Cells, NoMemory>
-    ensures { IfOk result (λ copy. copy.items ≡ cells.now.items) }
-{
-    let mut copy = Cells::new(alloc);
-    for at in 0..cells.len() {
-        copy.push(cells.get(Ref { at }))?;
-    }
-    Ok(copy)
-}
-
 /// The place of the newest pair of a bound variable.
 fn newest_of(pairs: &[(u64, Ref)], number: u64) -> usize
     requires { IsBound (reverse pairs.now) number }
@@ -206,18 +195,5 @@ impl Chains {
     {
         self.cells.cut_to(mark.cells);
         self.bound.truncate(mark.vars as usize);
-    }
-
-    /// The same terms and bindings again.
-    pub fn copy_all(&self, alloc: Global) -> Result<Chains, NoMemory>
-        requires chains { IsChains self.now }
-        ensures chains { IfOk result IsChains }
-        ensures value { IfOk result (λ copy. contents_of copy ≡ contents_of self.now) }
-    {
-        Ok(Chains {
-            cells: copy_cells(alloc, &self.cells)?,
-            bound: Vec::from_slice(alloc, self.bound.as_slice())?,
-            pairs: Vec::from_slice(alloc, self.pairs.as_slice())?,
-        })
     }
 }

@@ -8,7 +8,7 @@ ghost use Rattle.tp_terms.specs.Binds.{Fits};
 ghost use Rattle.tp_meaning.specs.Body.{body};
 ghost use Rattle.tp_meaning.specs.Clauses.{renamed};
 ghost use Rattle.tp_meaning.specs.Subst.{mgu};
-ghost use Rattle.tp_store.specs.Contents.{AddsCells, AddsPairs, IsStore, Names, IsNumbered, IsUnbound, CanGoBack, FindsUnifier, IsUnifiable, Keeps, cut_to_mark, with_cell, with_vars, seen, seen_cell, subst_of};
+ghost use Rattle.tp_store.specs.Contents.{AddsCells, IsStore, Names, IsNumbered, IsUnbound, CanGoBack, FindsUnifier, IsUnifiable, Keeps, cut_to_mark, with_cell, with_vars, seen, seen_cell, subst_of};
 ghost use Rattle.tp_store.specs.Copy.{IsClaimed, IsLast, NamesBoth, ShowsCopy};
 ghost use Rattle.tp_store.specs.Logged.{FindsHead, IsBound, KeepsTerms, Logs, LogsHead, unbound};
 ghost use Rattle.tp_store.specs.Bodies.{AsksMemory, FindsBody, IsWithin, KeepsNames, KeepsOwn};
@@ -18,7 +18,7 @@ use crate::chains::Chains;
 use crate::copy::instance;
 use crate::head::unify_head;
 use crate::logged::unify_logged;
-use crate::solve::{unifiable, unify};
+use crate::solve::unifiable;
 use std::alloc::Global;
 use std::marker::Model;
 use tp_log::Log;
@@ -140,30 +140,14 @@ impl Store {
         self.chains.end(at).cell
     }
 
-    /// Makes the terms of two places equal, by the fewest bindings that do: the most general
-    /// unifier over the substitution so far, with occurs check (ISO/IEC 13211-1, clause 7.3). Of
-    /// two unbound variables the younger takes the older's name. False exactly where there is no
-    /// unifier, and then nothing is bound.
-    ///
-    /// Answers `NoMemory` where the memory for it isn't had, and then nothing is bound.
-    pub fn unify(&mut self, left: Ref, right: Ref) -> Result<bool, NoMemory>
-        requires left { left.at < length self.old.cells }
-        requires right { right.at < length self.old.cells }
-        ensures found { IfOk result (FindsUnifier self.old self.new left right) }
-        ensures adds { AddsPairs self.old self.new }
-        ensures unchanged { result ≢ Ok true → self.new ≡ self.old }
-        ensures store { IsStore self.new }
-    {
-        let alloc = *self.chains.pairs.allocator();
-        unify(&mut self.chains, alloc, left, right)
-    }
-
-    /// Makes the terms of two places equal, as `unify` does, and adds an entry to the log for each
-    /// binding, the oldest first. False exactly where there is no unifier; then nothing is bound or
-    /// logged.
+    /// Makes the terms of two places equal, by the fewest bindings that do, and adds an entry to
+    /// the log for each binding, the oldest first: the most general unifier over the substitution
+    /// so far, with occurs check (ISO/IEC 13211-1, clause 7.3). Of two unbound variables the
+    /// younger takes the older's name. False exactly where there is no unifier; then nothing is
+    /// bound or logged.
     ///
     /// Answers `NoMemory` where the memory for it isn't had, and then nothing is bound or logged.
-    pub fn unify_logged(&mut self, left: Ref, right: Ref, log: &mut Log) -> Result<bool, NoMemory>
+    pub fn unify(&mut self, left: Ref, right: Ref, log: &mut Log) -> Result<bool, NoMemory>
         requires left { left.at < length self.old.cells }
         requires right { right.at < length self.old.cells }
         ensures found { IfOk result (FindsUnifier self.old self.new left right) }
@@ -276,18 +260,6 @@ impl Store {
         ensures store { IsStore self.new }
     {
         self.chains.back_to(mark);
-    }
-
-    /// The same terms and bindings again.
-    ///
-    /// Answers `NoMemory` where the memory for them isn't had.
-    pub fn copy_all(&self) -> Result<Store, NoMemory>
-        ensures value { IfOk result (λ copy. copy ≡ self.now) }
-        ensures store { IsStore self.now }
-    {
-        let alloc = *self.chains.pairs.allocator();
-        let chains = self.chains.copy_all(alloc)?;
-        Ok(Store { chains })
     }
 }
 

@@ -30,7 +30,7 @@ use Rattle.tp_report.specs.Report.{world_answer_text}
 use Rattle.tp_report.specs.Seen.{kind_by, event_by, process_names, seen_in as in_scene}
 use Rattle.tp_report.specs.Worlds.{StandsFor}
 use Rattle.tp_engine.specs.Answers.{answer_in}
-use Rattle.tp_engine.specs.Plain.{Plain, event_of, items_of, kind_of, process_of, with_running}
+use Rattle.tp_state.specs.Plain.{Plain, event_of, items_of, kind_of, process_of, with_running}
 use Rattle.tp_engine.specs.Told.{Snapshot, IsSound, world_in, seen_in}
 use Rattle.tp_top.specs.Told.{shown}
 

@@ -42,8 +42,8 @@ bindings-can [] old p r = tt
 bindings-can (q ∷ more) old p r =
     subst (λ es. CanUndo es (record p { pairs = q ∷ more ++ old }) r) (sym (logged-newest q more))
     (can-append (bindings_logged more) (entry.Bind q.0 ∷ []) (record p { pairs = q ∷ more ++ old }) r
-     (subst (λ ps. CanUndo (bindings_logged more) (record p { pairs = ps }) r) (sym (newest-goes q (more ++ old))) (bindings-can more old p r))
-     (newest-bound q (more ++ old), tt))
+    (subst (λ ps. CanUndo (bindings_logged more) (record p { pairs = ps }) r) (sym (newest-goes q (more ++ old))) (bindings-can more old p r))
+    (newest-bound q (more ++ old), tt))
 
 -- they leave the memory
 rooms-same : (more : Bindings) (r : Rooms) → rooms_undone (bindings_logged more) r ≡ r
@@ -63,8 +63,8 @@ store-follows h c log g = record {
   events = prolongs-same h.plain.events;
   safe = λ s. subst (λ es. CanUndo es (parts_of (with_store c h.plain)) h.rooms) (sym g.log)
       (subst (λ ps. CanUndo (h.log ++ bindings_logged g.more) (record (parts_of h.plain) { pairs = ps }) h.rooms) (sym g.pairs)
-       (can-append h.log (bindings_logged g.more) (record (parts_of h.plain) { pairs = g.more ++ h.plain.store.pairs }) h.rooms
-        (subst (λ p. CanUndo h.log p (rooms_undone (bindings_logged g.more) h.rooms)) (sym (bindings-undone g.more h.plain.store.pairs (parts_of h.plain)))
-         (subst (CanUndo h.log (parts_of h.plain)) (sym (rooms-same g.more h.rooms)) s))
-        (bindings-can g.more h.plain.store.pairs (parts_of h.plain) h.rooms)));
+      (can-append h.log (bindings_logged g.more) (record (parts_of h.plain) { pairs = g.more ++ h.plain.store.pairs }) h.rooms
+      (subst (λ p. CanUndo h.log p (rooms_undone (bindings_logged g.more) h.rooms)) (sym (bindings-undone g.more h.plain.store.pairs (parts_of h.plain)))
+      (subst (CanUndo h.log (parts_of h.plain)) (sym (rooms-same g.more h.rooms)) s))
+      (bindings-can g.more h.plain.store.pairs (parts_of h.plain) h.rooms)));
 }
