@@ -4,6 +4,7 @@ pub mod Worlds
 pub mod Program
 pub mod Begun
 pub mod Rewound
+pub mod Forgotten
 pub mod Choices
 pub mod Step
 mod GoalsMet

@@ -197,6 +197,13 @@ pub record Steps (old new : Machine) (r : Stepped) : Type 0 where
   pub bound : new.stamp ≤ old.stamp + 1
   pub place : ErrorStands new r
 
+-- nothing but the log was changed, and the machine stands where it stood
+pub record Forgets (old new : Machine) : Type 0 where
+  pub is : new ≡ record old { state = new.state }
+  pub plain : plain_of new.state ≡ plain_of old.state
+  pub state : state_in new ≡ state_in old
+  pub machine : IsMachine new
+
 -- after going back to a choice, and where there was none
 abbrev pub RewindsTo : Machine → Bool → Machine → Type 0
 RewindsTo old true new = IsBack new × (new.stamp < old.stamp)

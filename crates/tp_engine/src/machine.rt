@@ -29,7 +29,7 @@ pub struct Machine<'a> {
 }
 
 impl<'a> Machine<'a> {
-    ghost use Rattle.tp_engine.specs.Machine.{IsMachine, IsBegun, IsBack, SameProgram, Steps, Rewinds, Resumes};
+    ghost use Rattle.tp_engine.specs.Machine.{IsMachine, IsBegun, IsBack, SameProgram, Steps, Forgets, Rewinds, Resumes};
 
     /// The start of the goal, where it has a body.
     pub fn start(
@@ -62,8 +62,20 @@ impl<'a> Machine<'a> {
         }))
     }
 
-    /// One step.
+    /// One step. Where no choice is open behind it, nothing will be taken back any more.
     pub fn step(&mut self) -> Result<Stepped, NoMemory>
+        requires machine { IsMachine self.old }
+        requires few { self.old.stamp < 2 ^ 64 - 1 }
+        ensures stepped { IfOk result (Steps self.old self.new) }
+        ensures same { OnErr result (SameProgram self.old self.new) }
+    {
+        let stepped = self.act()?;
+        self.forget();
+        Ok(stepped)
+    }
+
+    /// The scheduler acts where no process runs, and else the running process.
+    fn act(&mut self) -> Result<Stepped, NoMemory>
         requires machine { IsMachine self.old }
         requires few { self.old.stamp < 2 ^ 64 - 1 }
         ensures stepped { IfOk result (Steps self.old self.new) }
@@ -72,6 +84,16 @@ impl<'a> Machine<'a> {
         match self.state.running {
             None => self.schedule(),
             Some(process) => self.advance(process),
+        }
+    }
+
+    /// Empties the log where no choice is open. Takes no memory.
+    fn forget(&mut self)
+        requires { IsMachine self.old }
+        ensures { Forgets self.old self.new }
+    {
+        if self.choices.is_empty() {
+            self.state.log.clear();
         }
     }
 
