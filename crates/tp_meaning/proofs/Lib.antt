@@ -20,4 +20,5 @@ pub mod Bodies
 pub mod Seen
 mod Rows
 mod RowsOfParts
+mod RowsOfControl
 pub mod OwnGoals

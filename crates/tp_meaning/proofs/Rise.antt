@@ -15,7 +15,7 @@ use Rattle.tp_meaning.specs.Scheduler.{choose}
 use Rattle.tp_meaning.specs.Step.{goal_by, goal_step, item_step, step}
 use Rattle.tp_meaning.specs.Valid.{slots_of, due, is_running, Below, AllBelow, ItemsFit, EventFits, KindFits, Valid, Follows, EachFollows, ClauseFits, StampsRise}
 use Rattle.tp_meaning.proofs.Places.{all-weaker, all-append}
-use Rattle.tp_meaning.proofs.Keeps.{keeps, items-later, going-follows, body-below, control-follows}
+use Rattle.tp_meaning.proofs.Keeps.{keeps, items-later, going-follows, body-below, term_of-below, control-follows}
 use Rattle.tp_meaning.proofs.Acts.{choose-follows}
 use Rattle.tp_meaning.proofs.Under.{Unifies, mgu-unifies, under-valid, replaced-below, all_replaced-below, below-more, bound-more}
 use Rattle.tp_meaning.proofs.Goes.{TurnFits, later, some-follow, ended-valid, await_again-follows}
@@ -115,10 +115,6 @@ predicate-fits (d ∷ ds) f n a = go (names_eq f d.name && nat_eq n (count_of d.
     go : (b : Bool) → AllByRecursion ClauseFits (predicate ds f n) → AllByRecursion ClauseFits (if b then d ∷ predicate ds f n else predicate ds f n)
     go true r = (a.0, r)
     go false r = r
-
-term_of-below : (n : ℕ) (f : Name) (ts : Terms) → AllBelow n ts → Below n (term_of f ts)
-term_of-below n f NoMore h = tt
-term_of-below n f (More t ts) h = h
 
 user-follows : (base : Base) (t : Turn) (f : Name) (ts : Terms) → AllByRecursion ClauseFits base → TurnFits t → AllBelow t.world.next ts → IfOk (user_goal base t f ts) (EachFollows t.world)
 user-follows base t f ts a k h = go (predicate base f (count_of ts)) (predicate-fits base f (count_of ts) a)

@@ -1,5 +1,5 @@
 -- How many arguments the goals of the language have at least.
-use Rattle.std.proofs.Common.{◌≡◌, ℕ, ◌≤◌, nat_le, Bool, true, false, ◌&&◌, List, [], ◌∷◌, Option, Some, None, refl, ap, sym, subst, ◌∙◌, arith, if◌then◌else◌}
+use Rattle.std.proofs.Common.{◌≡◌, ℕ, ◌≤◌, nat_le, Bool, true, false, ◌&&◌, List, [], ◌∷◌, Some, refl, subst, arith, if◌then◌else◌}
 use Rattle.std.specs.List.{list_all}
 use Rattle.std.proofs.lemmas.Bool.Decides.{nat_tests}
 use Rattle.tp_terms.specs.Term.{Name, names_eq}
@@ -10,6 +10,11 @@ use Rattle.tp_meaning.specs.declared.goals.ControlGoal.TheVariants as control
 -- the fewest arguments that a step looks at
 abbrev pub fewest : GoalKind → ℕ
 fewest (kind.Control control.Conjunction) = 2
+fewest (kind.Control control.Disjunction) = 2
+fewest (kind.Control control.IfThen) = 2
+fewest (kind.Control control.NotProvable) = 1
+fewest (kind.Control control.Call) = 1
+fewest (kind.Control control.Once) = 1
 fewest k = 0
 
 both : (a b : Bool) → (a && b) ≡ true → (a ≡ true) × (b ≡ true)
