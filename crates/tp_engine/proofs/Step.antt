@@ -2,7 +2,9 @@
 pub mod Parts
 pub mod First
 pub mod Newest
+pub mod Arrives
 pub mod Control
+pub mod Seconds
 pub mod Items
 pub mod Schedule
 pub mod Raise

@@ -4,6 +4,7 @@ pub mod Built
 pub mod Causes
 pub mod Heads
 pub mod Untried
+pub mod Conditions
 pub mod Machine
 pub mod Meets
 pub mod Goes

@@ -8,6 +8,9 @@ use Rattle.std.specs.List.{AllByRecursion}
 use Rattle.tp_meaning.specs.World.{World, start}
 use Rattle.tp_meaning.specs.Body.{body}
 use Rattle.tp_meaning.specs.Goals.{goal_kind}
+use Rattle.tp_meaning.specs.declared.goals.ControlGoal.{ControlGoal}
+use Rattle.tp_meaning.specs.declared.goals.ControlGoal.TheVariants as control
+use Rattle.tp_meaning.specs.declared.goals.GoalKind.TheVariants.{Control}
 use Rattle.tp_meaning.specs.Clauses.{Clause, Base, predicate}
 use Rattle.tp_meaning.specs.Machine as machine
 use Rattle.tp_meaning.specs.Machine.{IsChoice, stepped, rewound, resumed}
@@ -124,10 +127,35 @@ pub record IsAgain (p : Plain) : Type 0 where
   pub rest : List Item
   pub list : items_in p ≡ Retry goal ∷ rest
 
+-- control goals that give two worlds
+abbrev pub has_second : ControlGoal → Bool
+has_second control.Repeat = true
+has_second goal = false
+
+-- the running process stands at one of these
+pub record IsChoosing (names : List Name) (p : Plain) : Type 0 where
+  pub process : ℕ
+  pub running : p.running ≡ Some process
+  pub goal : Ref
+  pub barrier : ℕ
+  pub rest : List Item
+  pub list : items_in p ≡ Goal goal barrier ∷ rest
+  pub name : Name
+  pub args : Terms
+  pub is : seen names p.store goal.at ≡ term_of name args
+  pub control : ControlGoal
+  pub kind : goal_kind name (count_of args) ≡ Some (Control control)
+  pub two : has_second control ≡ true
+
+-- the running process stands where the second of two worlds is next
+pub data IsSecond (names : List Name) (p : Plain) : Type 0 where
+  again : IsAgain p → IsSecond names p
+  choosing : IsChoosing names p → IsSecond names p
+
 -- what is next can be gone on with
 abbrev pub GoesOn : List Name → Base → Plain → Alt → Type 0
 GoesOn names base p (alt.Clause place) = IsHit names base p place
-GoesOn names base p alt.Second = IsAgain p
+GoesOn names base p alt.Second = IsSecond names p
 GoesOn names base p (alt.Message place) = ⊥
 
 -- A choice whose marks can be gone back to, and whose next world can be gone on with there.

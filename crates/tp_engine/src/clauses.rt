@@ -125,7 +125,7 @@ impl<'a> Machine<'a> {
     }
 
     /// The goal that the running process stands at, where it has a name.
-    fn current(&self) -> Option<(Task, Call)>
+    pub fn current(&self) -> Option<(Task, Call)>
         requires { IsMachine self.now }
         ensures { IsCurrent self.now result }
     {

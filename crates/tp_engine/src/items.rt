@@ -10,8 +10,9 @@ use tp_control::{Alt, Choice, Item};
 use tp_terms::{EventKind, ItemId, NoMemory, ProcStatus, Ref};
 
 impl<'a> Machine<'a> {
+    ghost use Rattle.tp_state.specs.State.{plain_of};
     ghost use Rattle.tp_control.specs.declared.choices.Alt.{Alt};
-    ghost use Rattle.tp_engine.specs.Machine.{IsMachine, SameProgram, Steps, Resumes};
+    ghost use Rattle.tp_engine.specs.Machine.{IsAgain, IsMachine, SameProgram, Steps, Resumes};
     ghost use Rattle.tp_engine.specs.Meets.{Runs, HasFirst};
     ghost use Rattle.tp_engine.specs.Goes.{MayKeep, IsKept, Returns};
 
@@ -90,7 +91,7 @@ impl<'a> Machine<'a> {
         Ok(Stepped::Went)
     }
 
-    /// The process goes on waiting.
+    /// On with the second of two worlds.
     pub fn resume_second(&mut self) -> Result<(), NoMemory>
         requires { Returns self.old Alt.Second }
         ensures done { OnOk result (Resumes (record self.old { waiting = Some Alt.Second }) self.new) }
@@ -99,6 +100,20 @@ impl<'a> Machine<'a> {
         let Some(process) = self.state.running else {
             unreachable!()
         };
+        match self.current() {
+            Some((task, call)) => self.choose_second(task, call),
+            None => self.go_on_waiting(process),
+        }
+    }
+
+    /// The process goes on waiting.
+    fn go_on_waiting(&mut self, process: usize) -> Result<(), NoMemory>
+        requires back { Returns self.old Alt.Second }
+        requires again { IsAgain (plain_of self.old.state) }
+        requires running { self.old.state.running ≡ Some process }
+        ensures done { OnOk result (Resumes (record self.old { waiting = Some Alt.Second }) self.new) }
+        ensures program { OnErr result (SameProgram self.old self.new) }
+    {
         self.state
             .leave(process, ProcStatus::Parked { marked: false })?;
         self.stamp += 1;

@@ -29,13 +29,13 @@ use Rattle.tp_engine.proofs.Step.First.{standing, count-seen}
 use Rattle.tp_engine.proofs.Step.Parts.{resumes}
 
 -- a goal's name and arguments are its own
-name-same : (f g : Name) (ts us : Terms) → term_of f ts ≡ term_of g us → f ≡ g
+pub name-same : (f g : Name) (ts us : Terms) → term_of f ts ≡ term_of g us → f ≡ g
 name-same f g NoMore NoMore e = cc
 name-same f g NoMore (More u us) e = absurd (cc)
 name-same f g (More t ts) NoMore e = absurd (cc)
 name-same f g (More t ts) (More u us) e = cc
 
-args-same : (f g : Name) (ts us : Terms) → term_of f ts ≡ term_of g us → ts ≡ us
+pub args-same : (f g : Name) (ts us : Terms) → term_of f ts ≡ term_of g us → ts ≡ us
 args-same f g NoMore NoMore e = refl
 args-same f g NoMore (More u us) e = absurd (cc)
 args-same f g (More t ts) NoMore e = absurd (cc)

@@ -43,7 +43,7 @@ use Rattle.tp_state.specs.Plain.{Plain, item_of, items_of, world_of}
 use Rattle.tp_state.specs.Stands.{PlainStands}
 use Rattle.tp_state.specs.Acts.{resting, bodied}
 use Rattle.tp_engine.specs.Heads.{unifier, hits, EntersClause}
-use Rattle.tp_engine.specs.Untried.{untried_by, untried_goal, untried_clauses}
+use Rattle.tp_engine.specs.Untried.{untried_by, untried_goal, untried_named}
 use Rattle.tp_engine.specs.Machine.{IsMachine, Steps, base_in, world_in, choices_in}
 use Rattle.tp_engine.proofs.Step.Newest.{newest_below}
 use Rattle.tp_engine.specs.Meets.{Calls, Hits, IsUnknown, args_seen, clauses_of, found_from}
@@ -132,9 +132,9 @@ mgu-seen s a c is =
 
 -- ---- a goal and its clauses
 
-goal-untried : (base : Base) (t : Turn) (f : Name) (ts : Terms) (next : Alt) → untried_goal base t (term_of f ts) next ≡ untried_clauses base t f ts (goal_kind f (count_of ts)) next
-goal-untried base t f NoMore next = refl
-goal-untried base t f (More x ts) next = refl
+pub goal-untried : (base : Base) (t : Turn) (b : ℕ) (f : Name) (ts : Terms) (next : Alt) → untried_goal base t b (term_of f ts) next ≡ untried_named base t b f ts (goal_kind f (count_of ts)) next
+goal-untried base t b f NoMore next = refl
+goal-untried base t b f (More x ts) next = refl
 
 module _ (m : Machine) (t : Task) (c : Call) (h : Calls m t c None) where
   abbrev goal : Term
@@ -164,9 +164,9 @@ module _ (m : Machine) (t : Task) (c : Call) (h : Calls m t c None) where
   untried_is k =
       ap (λ o. elim o as (λ _. List World) [ None ↦ [] | Some p ↦ untried_by (base_in m) (world_in m) p (world.items_at (world_in m).processes p) (alt.Clause k) ]) h.meets.running
       ∙ ap (λ is. untried_by (base_in m) (world_in m) t.process is (alt.Clause k)) items-are
-      ∙ ap (λ g. untried_goal (base_in m) turn g (alt.Clause k)) h.call.is
-      ∙ goal-untried (base_in m) turn f args (alt.Clause k)
-      ∙ ap (λ o. untried_clauses (base_in m) turn f args o (alt.Clause k)) kind
+      ∙ ap (λ g. untried_goal (base_in m) turn t.barrier g (alt.Clause k)) h.call.is
+      ∙ goal-untried (base_in m) turn t.barrier f args (alt.Clause k)
+      ∙ ap (λ o. untried_named (base_in m) turn t.barrier f args o (alt.Clause k)) kind
       ∙ ap (λ n. worlds_of turn (term_of f args) (drop k (predicate (base_in m) f n))) number
       ∙ ap (λ g. worlds_of turn g (drop k (clauses_of m c))) (sym h.call.is)
 

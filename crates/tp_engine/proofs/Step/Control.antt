@@ -1,10 +1,10 @@
 -- Steps of control goals.
-use Rattle.std.proofs.Common.{◌≡◌, ℕ, zero, suc, ◌+◌, ◌<◌, ◌≤◌, List, ◌∷◌, map, length, Some, Err, refl, ap, sym, subst, ◌∙◌, arith}
+use Rattle.std.proofs.Common.{◌≡◌, ℕ, zero, suc, ◌+◌, ◌<◌, ◌≤◌, List, [], ◌∷◌, map, take, length, Some, Err, refl, ap, sym, subst, ◌∙◌, arith}
 use Rattle.tp_terms.specs.declared.cells.Ref.{Ref}
 use Rattle.tp_terms.specs.Term.{Name, Terms, count_of}
 use Rattle.tp_terms.specs.Shown.{name_at}
 use Rattle.tp_terms.proofs.NameLemmas.{Grows-same}
-use Rattle.tp_meaning.specs.Control.{arg}
+use Rattle.tp_meaning.specs.Control.{arg, if_then}
 use Rattle.tp_meaning.specs.declared.goals.GoalKind.{GoalKind}
 use Rattle.tp_meaning.specs.declared.goals.GoalKind.TheVariants.{Control}
 use Rattle.tp_meaning.specs.declared.goals.GoalKind.TheVariants as kind
@@ -16,10 +16,13 @@ use Rattle.tp_meaning.specs.declared.goals.ControlGoal.TheVariants as control
 use Rattle.tp_meaning.specs.World as world
 use Rattle.tp_meaning.specs.World.{World, with_items, stamped}
 use Rattle.tp_meaning.specs.Turn.{Turn, going, one}
+use Rattle.tp_meaning.specs.Search as search
 use Rattle.tp_meaning.specs.Search.{Dead}
 use Rattle.tp_meaning.specs.declared.DeadCause.TheVariants.{Failed}
 use Rattle.tp_meaning.specs.Step.{goal_by}
 use Rattle.tp_meaning.specs.Machine as machine
+use Rattle.tp_meaning.specs.Machine.{cut_from}
+use Rattle.tp_control.specs.declared.choices.Choice.{Choice}
 use Rattle.tp_meaning.proofs.OwnGoals.Counts.{fewest-fits}
 use Rattle.tp_store.specs.Contents.{Contents, seen}
 use Rattle.tp_control.specs.declared.frames.Item.{Item}
@@ -34,12 +37,14 @@ use Rattle.tp_state.specs.State.{plain_of, held_of}
 use Rattle.tp_control.specs.Lists.{items_at}
 use Rattle.tp_state.specs.Plain.{Plain, item_of, world_of}
 use Rattle.tp_state.specs.Acts.{pushed, resting}
-use Rattle.tp_engine.specs.Machine.{IsMachine, Steps, base_in, world_in}
-use Rattle.tp_engine.specs.Meets.{Calls, IsUnknown, args_seen}
+use Rattle.tp_engine.specs.Conditions.{conditional, pushes}
+use Rattle.tp_engine.specs.Machine.{IsMachine, Steps, base_in, choices_in, choices_of, world_in}
+use Rattle.tp_engine.specs.Meets.{Calls, IsCall, IsUnknown, args_seen}
 use Rattle.tp_engine.specs.Goes.{Goes}
 use Rattle.tp_engine.proofs.Worlds.Items.{OtherItems, other-stands, other-world, other-rest, other-push, pushed-items}
 use Rattle.tp_engine.proofs.Step.First.{call-gives, count-seen, rest_in, turn_in}
-use Rattle.tp_engine.proofs.Step.Parts.{to_one, to_none}
+use Rattle.tp_engine.proofs.Step.Arrives.{arrives}
+use Rattle.tp_engine.proofs.Step.Parts.{to_one, to_none, to_commit}
 
 -- the machine goes on with other items
 pub other-goes : (m : Machine) (s : State) (n : ℕ) → IsMachine m → OtherItems m.atoms (plain_of m.state) (plain_of s) → going.Follows (held_of m.state) (held_of s) → n ≡ m.stamp + 1 → Goes m (record m { state = s; stamp = n })
@@ -110,12 +115,54 @@ module _ (m : Machine) (t : Task) (c : Call) (is : IsMachine m) where
       ∙ ap (λ x. one (going (turn_in m t.process t.rest) (world.Goal (seen m.atoms m.state.store c.first.at) t.barrier ∷ world.Goal x t.barrier ∷ rest_in m t.rest))) second_is
       ∙ ap one (sym (other-to m s' (m.stamp + 1) t.process items is o refl h.meets.running listed)))
 
+  -- `!`
+  pub cuts : (s : State) (cs : List Choice) (n : ℕ) → Calls m t c (Some (Control control.Cut)) → going.Follows (held_of m.state) (held_of s) → plain_of s ≡ resting t.rest (plain_of m.state)
+      → choices_of m.atoms (base_in m) (held_of m.state) cs ≡ cut_from t.barrier (choices_in m) → cs ≡ take n m.choices → Steps m (record m { state = s; choices = cs; stamp = m.stamp + 1 }) answer.Went
+  cuts s cs n h f e cut first =
+      let a = arrives m t [] s is h.meets tt f e in
+      to_commit m (record m { state = s; choices = cs; stamp = m.stamp + 1 }) t.barrier n is refl refl a.stands f cut first
+      (call-gives m t c (Some (Control control.Cut)) h ∙ ap (search.Commit t.barrier) (sym a.world))
+
+  -- the two arguments of a goal that has two at least
+  module _ (least : 2 ≤ c.count) (call : IsCall m.atoms m.state.store t.goal c) where
+    first-arg : arg 0 (args_seen m.atoms m.state.store c.first.at c.count) ≡ seen m.atoms m.state.store c.first.at
+    first-arg = arg-is m.atoms m.state.store c.first.at c.count 0 (omega arith) ∙ ap (seen m.atoms m.state.store) (let z : c.first.at + 0 ≡ c.first.at = omega arith in z)
+
+    second-arg : (second : Ref) → second.at ≡ c.first.at + 1 → arg 1 (args_seen m.atoms m.state.store c.first.at c.count) ≡ seen m.atoms m.state.store second.at
+    second-arg second es = arg-is m.atoms m.state.store c.first.at c.count 1 (omega arith) ∙ ap (seen m.atoms m.state.store) (sym es)
+
+    first-there : c.first.at < length m.state.store.cells
+    first-there = let w = call.within in omega arith
+
+    second-there : (second : Ref) → second.at ≡ c.first.at + 1 → second.at < length m.state.store.cells
+    second-there second es = let w = call.within in omega (arith, es)
+
+  -- the arguments of a condition stand
+  pub two_of_condition : Calls m t c (Some (Control control.IfThen)) → 2 ≤ c.count
+  two_of_condition h = fewest-fits (name_at m.atoms c.name.at) c.count (Control control.IfThen) h.kind
+
+  -- `->`
+  pub conditions : (s : State) (second : Ref) → Calls m t c (Some (Control control.IfThen)) → second.at ≡ c.first.at + 1 → going.Follows (held_of m.state) (held_of s)
+      → plain_of s ≡ pushes (conditional m.stamp c.first second t.barrier) (resting t.rest (plain_of m.state)) → Steps m (record m { state = s; stamp = m.stamp + 1 }) answer.Went
+  conditions s second h es f e =
+      let least = two_of_condition h in
+      let a = arrives m t (conditional m.stamp c.first second t.barrier) s is h.meets (first-there least h.call, (tt, (second-there least h.call second es, tt))) f e in
+      let turn = turn_in m t.process t.rest in
+      to_one m (record m { state = s; stamp = m.stamp + 1 }) is a.goes
+      (call-gives m t c (Some (Control control.IfThen)) h
+      ∙ ap (λ x. one (going turn (if_then turn t.barrier x (arg 1 (args_seen m.atoms m.state.store c.first.at c.count))))) (first-arg least h.call)
+      ∙ ap (λ x. one (going turn (if_then turn t.barrier (seen m.atoms m.state.store c.first.at) x))) (second-arg least h.call second es)
+      ∙ ap one (sym a.world))
+
 -- a goal of the language that isn't there yet is unknown
-unknown-control : (base : Base) (w : Turn) (b : ℕ) (f : Name) (ts : Terms) (g : ControlGoal) → (g ≡ control.True → ⊥) → (g ≡ control.Fail → ⊥) → (g ≡ control.Conjunction → ⊥) → goal_by base w b f ts (Some (Control g)) ≡ Err (unknown f (count_of ts))
-unknown-control base w b f ts control.True x y z = absurd (x refl)
-unknown-control base w b f ts control.Fail x y z = absurd (y refl)
-unknown-control base w b f ts control.Conjunction x y z = absurd (z refl)
-unknown-control base w b f ts _ x y z = refl
+unknown-control : (base : Base) (w : Turn) (b : ℕ) (f : Name) (ts : Terms) (g : ControlGoal) → (g ≡ control.True → ⊥) → (g ≡ control.Fail → ⊥) → (g ≡ control.Conjunction → ⊥) → (g ≡ control.Cut → ⊥) → (g ≡ control.IfThen → ⊥) → (g ≡ control.Repeat → ⊥) → goal_by base w b f ts (Some (Control g)) ≡ Err (unknown f (count_of ts))
+unknown-control base w b f ts control.True x y z u v q = absurd (x refl)
+unknown-control base w b f ts control.Fail x y z u v q = absurd (y refl)
+unknown-control base w b f ts control.Conjunction x y z u v q = absurd (z refl)
+unknown-control base w b f ts control.Cut x y z u v q = absurd (u refl)
+unknown-control base w b f ts control.IfThen x y z u v q = absurd (v refl)
+unknown-control base w b f ts control.Repeat x y z u v q = absurd (q refl)
+unknown-control base w b f ts _ x y z u v q = refl
 
 pub is_unknown : (m : Machine) (t : Task) (c : Call) (k : GoalKind) → Calls m t c (Some k) → ((w : Turn) (b : ℕ) (f : Name) (ts : Terms) → goal_by (base_in m) w b f ts (Some k) ≡ Err (unknown f (count_of ts))) → IsUnknown m t c.name.at c.count
 is_unknown m t c k h e =
@@ -130,8 +177,8 @@ is_unknown m t c k h e =
       unknown = λ w b. ap (goal_by (base_in m) w b f args) (ap (goal_kind f) number ∙ h.kind) ∙ e w b f args;
     }
 
-pub not_there : (m : Machine) (t : Task) (c : Call) (g : ControlGoal) → Calls m t c (Some (Control g)) → (g ≡ control.True → ⊥) → (g ≡ control.Fail → ⊥) → (g ≡ control.Conjunction → ⊥) → IsUnknown m t c.name.at c.count
-not_there m t c g h x y z = is_unknown m t c (Control g) h (λ w b f ts. unknown-control (base_in m) w b f ts g x y z)
+pub not_there : (m : Machine) (t : Task) (c : Call) (g : ControlGoal) → Calls m t c (Some (Control g)) → (g ≡ control.True → ⊥) → (g ≡ control.Fail → ⊥) → (g ≡ control.Conjunction → ⊥) → (g ≡ control.Cut → ⊥) → (g ≡ control.IfThen → ⊥) → (g ≡ control.Repeat → ⊥) → IsUnknown m t c.name.at c.count
+not_there m t c g h x y z u v q = is_unknown m t c (Control g) h (λ w b f ts. unknown-control (base_in m) w b f ts g x y z u v q)
 
 pub not_control : (m : Machine) (t : Task) (c : Call) (k : GoalKind) → Calls m t c (Some k) → ((g : ControlGoal) → k ≡ Control g → ⊥) → IsUnknown m t c.name.at c.count
 not_control m t c k h x = is_unknown m t c k h (go k x)

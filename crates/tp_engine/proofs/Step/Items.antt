@@ -31,7 +31,7 @@ use Rattle.tp_state.specs.Acts.{pushed, resting, noted, left, mark_others}
 use Rattle.tp_state.proofs.GoingBack.Logs.{covers-same}
 use Rattle.tp_state.proofs.GoingBack.Follows.{adds, prolongs-same}
 use Rattle.tp_engine.specs.Untried.{untried_by, second_of}
-use Rattle.tp_engine.specs.Machine.{IsMachine, Steps, Resumes, base_in, world_in, choices_in, choices_of, IsAgain}
+use Rattle.tp_engine.specs.Machine.{IsMachine, Steps, Resumes, base_in, world_in, choices_in, choices_of, IsAgain, again}
 use Rattle.tp_engine.specs.Meets.{Runs, HasFirst}
 use Rattle.tp_engine.specs.Goes.{Goes, MayKeep, IsKept, Returns, untried_in}
 use Rattle.tp_engine.proofs.Worlds.Items.{OtherItems, other-stands, other-rest, other-push, pushed-items}
@@ -106,7 +106,7 @@ module _ (m : Machine) (r : ℕ) (g : Ref) (rest : Option ItemId) (is : IsMachin
   pub may_again : MayKeep m Second
   may_again = record {
     stands = is.stands;
-    goes_on = record { process = r; running = h.running; goal = g; rest = items_at m.state.frames rest; list = h.list };
+    goes_on = again (record { process = r; running = h.running; goal = g; rest = items_at m.state.frames rest; list = h.list });
     safe = is.safe;
     choices = is.choices;
     below = newest_below m is;
@@ -185,10 +185,9 @@ waits_again m s a is e f =
     kept_items (x ∷ xs) (suc r) is e = ap (λ ys. x ∷ ys) (kept_items xs r is e)
 
 -- the machine goes on so
-pub goes_on_waiting : (m : Machine) (s : State) (r : ℕ) → Returns m Second → m.state.running ≡ Some r
+pub goes_on_waiting : (m : Machine) (s : State) (r : ℕ) → Returns m Second → IsAgain (plain_of m.state) → m.state.running ≡ Some r
     → ((q : Proc) → slice_get m.state.procs r ≡ Some q → plain_of s ≡ left r q (Parked false) (plain_of m.state)) → going.Follows (held_of m.state) (held_of s) → Resumes (record m { waiting = Some Second }) (record m { state = s; stamp = m.stamp + 1 })
-goes_on_waiting m s r back run e f =
-    let a = back.goes_on in
+goes_on_waiting m s r back a run e f =
     let same : r ≡ a.process = (let z : Some r ≡ Some a.process = sym run ∙ a.running in cc) in
     let w = waits_again m s a back.machine (subst (λ n. (q : Proc) → slice_get m.state.procs n ≡ Some q → plain_of s ≡ left n q (Parked false) (plain_of m.state)) same e) f in
     resumes m m (record m { state = s; stamp = m.stamp + 1 }) Second [] back (record { same = refl; fits = back.machine.choices; kept = refl }) w.0 w.1

@@ -33,7 +33,7 @@ use Rattle.tp_state.specs.Plain.{Plain, item_of, items_of, process_of, with_runn
 use Rattle.tp_terms.specs.Events.{KindStands, EventStands}
 use Rattle.tp_state.specs.Stands.{ProcStands, PlainStands}
 use Rattle.tp_state.specs.State.{plain_of}
-use Rattle.tp_engine.specs.Machine.{GoesOn}
+use Rattle.tp_engine.specs.Machine.{GoesOn, again, choosing}
 
 -- a map by two functions that agree on each element
 map-each : {A B : Type 0} (f g : A → B) → ((x : A) → f x ≡ g x) → (xs : List A) → map f xs ≡ map g xs
@@ -173,5 +173,19 @@ goes_on-later old new grows base p (alt.Clause place) s h = record {
   hit = ap is_some (unifier-later old new grows p.store s.atoms h.goal.at (head_of h.clause)) ∙ h.hit;
   few = h.few;
 }
-goes_on-later old new grows base p alt.Second s h = h
+goes_on-later old new grows base p alt.Second s (again h) = again h
+goes_on-later old new grows base p alt.Second s (choosing h) = choosing (record {
+  process = h.process;
+  running = h.running;
+  goal = h.goal;
+  barrier = h.barrier;
+  rest = h.rest;
+  list = h.list;
+  name = h.name;
+  args = h.args;
+  is = seen-later old new grows p.store s.atoms h.goal.at ∙ h.is;
+  control = h.control;
+  kind = h.kind;
+  two = h.two;
+})
 goes_on-later old new grows base p (alt.Message place) s h = absurd h

@@ -9,4 +9,4 @@ pub returns-in-Fail-clause-done : goal.returns-in-Fail-clause-done
 returns-in-Fail-clause-done c = fails c.args.self.now c.args.task c.args.call c.requires.machine (subst (λ g. Calls c.args.self.now c.args.task c.args.call (Some (Control g))) c.in-Fail.is c.requires.call)
 
 pub raise-requires-clause-cause : goal.raise-requires-clause-cause
-raise-requires-clause-cause c = not_there c.args.self.now c.args.task c.args.call c.args.goal c.requires.call c.in_default.not-True c.in_default.not-Fail c.in_default.not-Conjunction
+raise-requires-clause-cause c = not_there c.args.self.now c.args.task c.args.call c.args.goal c.requires.call c.in_default.not-True c.in_default.not-Fail c.in_default.not-Conjunction c.in_default.not-Cut c.in_default.not-IfThen c.in_default.not-Repeat
