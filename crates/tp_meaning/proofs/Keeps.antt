@@ -8,7 +8,7 @@ use Rattle.tp_meaning.specs.Valid.{Below, AllBelow, ItemFits, ItemsFit, busy, wa
 use Rattle.tp_meaning.specs.Turn.{Turn, Gives, going}
 use Rattle.tp_meaning.specs.declared.goals.ControlGoal.{ControlGoal}
 use Rattle.tp_meaning.specs.declared.goals.ControlGoal.TheVariants as c
-use Rattle.tp_meaning.specs.Control.{control, arg, if_then}
+use Rattle.tp_meaning.specs.Control.{control, arg, if_then, first_of, not_provable, called, called_once}
 use Rattle.tp_meaning.proofs.Places.{map-at_place, length-at_place, all-at_place, all-weaker}
 
 pub status-same : (f : Process → Process) → ((q : Process) → (f q).status ≡ q.status) → (n : ℕ) (ps : List Process) (q : ℕ) → status_at (at_place n f ps) q ≡ status_at ps q
@@ -80,6 +80,23 @@ body-below n (Comp f (More a (More b NoMore))) h = go (joins_goals f) (pair_body
     go false x = h
 body-below n (Comp f ts) h = h
 
+-- ---- goals that are entered
+
+entered_as-below : (n : ℕ) (g : Term) (o : Option Term) → IfSome o (Below n) → IfOk (entered_as g o) (Below n)
+entered_as-below n g None h = tt
+entered_as-below n g (Some b) h = h
+
+pub enter-below : (n : ℕ) (g : Term) → Below n g → IfOk (enter g) (Below n)
+enter-below n (Var v) h = tt
+enter-below n (Int z) h = tt
+enter-below n (Atom a) h = tt
+enter-below n (Comp f ts) h = entered_as-below n (Comp f ts) (body (Comp f ts)) (body-below n (Comp f ts) h)
+
+-- a second step, where the first gives a value
+pub after-ok : {A B : Type 0} (P : A → Type 0) (Q : B → Type 0) (r : Checked A) (f : A → Checked B) → IfOk r P → ((x : A) → P x → IfOk (f x) Q) → IfOk (r >>= f) Q
+after-ok P Q (Ok x) f h k = k x h
+after-ok P Q (Err e) f h k = tt
+
 -- ---- control goals
 
 pub arg-below : (n k : ℕ) (ts : Terms) → AllBelow n ts → Below n (arg k ts)
@@ -98,6 +115,19 @@ Fits t = ItemsFit t.world.next (t.world.stamp + 1)
 if_then-fit : (t : Turn) (b : ℕ) (x g : Term) → b ≤ t.world.stamp → Below t.world.next x → Below t.world.next g → Fits t t.rest → Fits t (if_then t b x g)
 if_then-fit t b x g le x' g' rest = ((x', omega arith), (omega arith, ((g', omega arith), rest)))
 
+first_of-fit : (t : Turn) (b : ℕ) (g : Term) → b ≤ t.world.stamp → Below t.world.next g → Fits t t.rest → Fits t (first_of t b g)
+first_of-fit t b (Var v) le g' rest = ((g', omega arith), rest)
+first_of-fit t b (Int z) le g' rest = ((g', omega arith), rest)
+first_of-fit t b (Atom a) le g' rest = ((g', omega arith), rest)
+first_of-fit t b (Comp f NoMore) le g' rest = ((g', omega arith), rest)
+first_of-fit t b (Comp f (More x NoMore)) le g' rest = ((g', omega arith), rest)
+first_of-fit t b (Comp f (More x (More y NoMore))) le g' rest = go (names_eq f (codes "->"))
+  where
+    go : (b' : Bool) → Fits t (elim (if◌then◌else◌ {A = Option (Term × Term)} b' (Some (x, y)) None) [ None ↦ Goal (Comp f (More x (More y NoMore))) b ∷ t.rest | Some p ↦ if_then t b p.0 p.1 ])
+    go true = if_then-fit t b x y le g'.0 g'.1.0 rest
+    go false = ((g', omega arith), rest)
+first_of-fit t b (Comp f (More x (More y (More z ts)))) le g' rest = ((g', omega arith), rest)
+
 -- a control goal, whose arguments have variables below the next one
 pub control-follows : (t : Turn) (b : ℕ) (k : ControlGoal) (f : Name) (ts : Terms) → Valid t.world → b ≤ t.world.stamp → AllBelow t.world.next ts → ItemsFit t.world.next t.world.stamp t.rest → IfOk (control t b k f ts) (EachFollows t.world)
 control-follows t b k f ts v le fit now = go k
@@ -114,11 +144,31 @@ control-follows t b k f ts v le fit now = go k
     argument : (n : ℕ) → ItemFits t.world.next (t.world.stamp + 1) (Goal (arg n ts) b)
     argument n = (below n, omega arith)
 
+    entered : (k : Term → Checked Gives) → ((g : Term) → Below t.world.next g → IfOk (k g) (EachFollows t.world)) → IfOk (enter (arg 0 ts) >>= k) (EachFollows t.world)
+    entered k h = after-ok (Below t.world.next) (EachFollows t.world) (enter (arg 0 ts)) k (enter-below t.world.next (arg 0 ts) (below 0)) h
+
+    denied : IfOk (not_provable t b (arg 0 ts)) (EachFollows t.world)
+    denied = entered _ (λ g h. (to (if_then t b g (atom "fail")) (if_then-fit t b g (atom "fail") le h tt rest), (to t.rest rest, tt)))
+
+    call : IfOk (called t (arg 0 ts)) (EachFollows t.world)
+    call = entered _ (λ g h. (to (Goal g (t.world.stamp + 1) ∷ t.rest) ((h, omega arith), rest), tt))
+
+    call_one : (o : Bool) → IfOk (if o then called t (arg 0 ts) else Err (unknown f (count_of ts))) (EachFollows t.world)
+    call_one true = call
+    call_one false = tt
+
+    call_once : IfOk (called_once t (arg 0 ts)) (EachFollows t.world)
+    call_once = entered _ (λ g h. (to (Goal g (t.world.stamp + 1) ∷ Commit t.world.stamp ∷ t.rest) ((h, omega arith), (omega arith, rest)), tt))
+
     go : (k : ControlGoal) → IfOk (control t b k f ts) (EachFollows t.world)
     go c.True = (to t.rest rest, tt)
     go c.Fail = tt
     go c.Conjunction = (to (Goal (arg 0 ts) b ∷ Goal (arg 1 ts) b ∷ t.rest) (argument 0, (argument 1, rest)), tt)
     go c.Cut = to t.rest rest
+    go c.Disjunction = (to (first_of t b (arg 0 ts)) (first_of-fit t b (arg 0 ts) le (below 0) rest), (to (Goal (arg 1 ts) b ∷ t.rest) (argument 1, rest), tt))
     go c.IfThen = (to (if_then t b (arg 0 ts) (arg 1 ts)) (if_then-fit t b (arg 0 ts) (arg 1 ts) le (below 0) (below 1) rest), tt)
+    go c.NotProvable = denied
+    go c.Call = call_one (nat_eq (count_of ts) 1)
+    go c.Once = call_once
     go c.Repeat = (to t.rest rest, (to (Goal (term_of f ts) b ∷ t.rest) ((term_of-below t.world.next f ts fit, omega arith), rest), tt))
-    go _ = tt
+    go c.Between = tt
