@@ -1,4 +1,5 @@
 mod Raised
+pub mod Entered
 pub mod HeadsMet
 pub mod Worlds
 pub mod Program

@@ -6,5 +6,6 @@ pub mod Control
 pub mod Items
 pub mod Schedule
 pub mod Raise
+pub mod Refuse
 pub mod Clauses
 pub mod Back
