@@ -1,5 +1,6 @@
 mod Raised
 pub mod Entered
+pub mod Grown
 pub mod HeadsMet
 pub mod Worlds
 pub mod Program
