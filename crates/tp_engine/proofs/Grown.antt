@@ -19,8 +19,8 @@ use Rattle.tp_engine.specs.declared.machine.Machine.{Machine}
 use Rattle.tp_engine.specs.declared.phase.Stepped.{Stepped}
 use Rattle.tp_engine.specs.declared.task.Task.{Task}
 use Rattle.tp_engine.specs.declared.task.Call.{Call}
-use Rattle.tp_engine.specs.Enters.{HasEntered}
-use Rattle.tp_engine.specs.Machine.{IsMachine, Steps, base_in, choices_in, state_in, world_in}
+use Rattle.tp_engine.specs.Enters.{HasEntered, Rests}
+use Rattle.tp_engine.specs.Machine.{IsMachine, SameProgram, Steps, base_in, choices_in, state_in, world_in}
 use Rattle.tp_engine.specs.Meets.{Calls, Meets, args_seen}
 use Rattle.tp_engine.proofs.Choices.{stay_by_acts, fits_stay, choices_stay}
 use Rattle.tp_engine.proofs.Entered.{cells-follow}
@@ -28,21 +28,19 @@ use Rattle.tp_engine.proofs.Step.First.{standing}
 use Rattle.tp_engine.proofs.Step.Parts.{state_is}
 use Rattle.tp_engine.proofs.Worlds.Stores.{OtherStore, store-stands, same-world}
 
--- the machine has another state, which stands for the same world
-pub record Rests (old new : Machine) : Type 0 where
-  pub is : new ≡ record old { state = new.state }
-  pub state : state_in new ≡ state_in old
-  pub machine : IsMachine new
+-- what kept the program from there on keeps it from where it stood
+pub program_from : (old mid new : Machine) → Rests old mid → SameProgram mid new → SameProgram old new
+program_from old mid new g s = record {
+  base = s.base ∙ ap (λ (m : Machine). m.base.now) g.is;
+  goal = s.goal ∙ ap (λ (m : Machine). m.goal.now) g.is;
+  names = subst (λ (ns : List Name). Grows ns new.atoms) (ap (λ (m : Machine). m.atoms) g.is) s.names;
+}
 
 -- a step from there is one from where it stood
 pub steps_from : (old mid new : Machine) (r : Stepped) → Rests old mid → Steps mid new r → Steps old new r
 steps_from old mid new r g s = record {
   machine = s.machine;
-  same = record {
-    base = s.same.base ∙ ap (λ (m : Machine). m.base.now) g.is;
-    goal = s.same.goal ∙ ap (λ (m : Machine). m.goal.now) g.is;
-    names = subst (λ (ns : List Name). Grows ns new.atoms) (ap (λ (m : Machine). m.atoms) g.is) s.same.names;
-  };
+  same = program_from old mid new g s.same;
   meaning = s.meaning ∙ ap base_in g.is;
   step = s.step ∙ ap (λ b. stepped (searched b) (state_in mid)) (ap base_in g.is) ∙ ap (stepped (searched (base_in old))) g.state;
   bound = omega (arith, ap (λ (m : Machine). m.stamp) g.is, s.bound);

@@ -1,9 +1,10 @@
 //! Goals that are entered at run time (ISO/IEC 13211-1, 7.6.2).
 
-ghost use Rattle.std.specs.Prelude.{◌≡◌, ℕ, ◌<◌, List, length, IfOk, OnOk};
+ghost use Rattle.std.specs.Prelude.{◌≡◌, ℕ, ◌<◌, List, Some, length, IfOk, OnOk, OnErr};
 ghost use Rattle.tp_terms.specs.Term.{Name, Var};
 ghost use Rattle.tp_terms.specs.Names.{IsTable};
 ghost use Rattle.tp_terms.specs.Shown.{AreNamed};
+ghost use Rattle.tp_meaning.specs.declared.goals.GoalKind.TheVariants.{Control};
 ghost use Rattle.tp_store.specs.Contents.{IsStore, seen};
 ghost use Rattle.tp_state.specs.Acts.{with_store};
 ghost use Rattle.tp_state.specs.Going.{Follows};
@@ -11,6 +12,9 @@ ghost use Rattle.tp_state.specs.State.{plain_of, held_of};
 ghost use Rattle.tp_engine.specs.Enters.{Enters};
 
 use crate::errors::Cause;
+use crate::machine::Machine;
+use crate::task::{Call, Task};
+use tp_meaning::ControlGoal;
 use tp_state::State;
 use tp_terms::{Cell, NoMemory, Ref};
 
@@ -59,5 +63,29 @@ fn enter_bound(state: &mut State, goal: Ref) -> Result<Entered, NoMemory>
     match state.store.body(goal)? {
         Some(place) => Ok(Entered::Goal(place)),
         None => Ok(Entered::Refused(Cause::NotCallable(goal))),
+    }
+}
+
+impl<'a> Machine<'a> {
+    ghost use Rattle.tp_engine.specs.Enters.{EntersFirst, FirstEntered, Rests};
+    ghost use Rattle.tp_engine.specs.Machine.{IsMachine, SameProgram};
+    ghost use Rattle.tp_engine.specs.Meets.{Calls};
+
+    /// Enters the first argument of the running process's goal.
+    pub fn enter_first(
+        &mut self,
+        _task: Task,
+        call: Call,
+        _goal: ControlGoal,
+    ) -> Result<Entered, NoMemory>
+        requires machine { IsMachine self.old }
+        requires call { Calls self.old _task call (Some (Control _goal)) }
+        requires first { EntersFirst _goal call.count }
+        ensures rests { OnOk result (Rests self.old self.new) }
+        ensures first { IfOk result (FirstEntered self.new _task call _goal) }
+        ensures program { OnErr result (SameProgram self.old self.new) }
+    {
+        let entered = enter(&mut self.state, call.first)?;
+        Ok(entered)
     }
 }

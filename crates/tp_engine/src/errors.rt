@@ -84,7 +84,7 @@ fn culprit_kind(store: &mut Store, culprit: Cell) -> Result<Ref, NoMemory>
     ensures built { IfOk result (λ kind. (names : List Name) → IsTable names →
         AreNamed (length names) store.old.cells → IsNamed (length names) culprit →
         Built names store.old store.new kind.at
-            (type_error "callable" (shown_from names store.old.cells culprit))) }
+        (type_error "callable" (shown_from names store.old.cells culprit))) }
 {
     let what = store.place(Cell::Atom(CALLABLE))?;
     store.place(culprit)?;
@@ -108,7 +108,7 @@ fn term_kind(store: &mut Store, goal: Ref) -> Result<Ref, NoMemory>
     ensures built { IfOk result (λ kind. (names : List Name) → IsTable names →
         AreNamed (length names) store.old.cells →
         Built names store.old store.new kind.at
-            (type_error "callable" (shows names store.old.cells goal.at))) }
+        (type_error "callable" (shows names store.old.cells goal.at))) }
 {
     let culprit = store.cells().get(goal);
     let kind = culprit_kind(store, culprit)?;
@@ -149,7 +149,7 @@ pub fn raised(store: &mut Store, cause: Cause, process: AtomId) -> Result<Ref, N
         AreNamed (length names) store.old.cells → CauseStands names cause →
         process.at < length names →
         Built names store.old store.new place.at
-            (error (kind_term names store.old.cells cause) (name_at names process.at))) }
+        (error (kind_term names store.old.cells cause) (name_at names process.at))) }
 {
     let kind = kind_of(store, cause)?;
     let place = error(store, kind, process)?;
