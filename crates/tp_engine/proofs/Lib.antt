@@ -1,4 +1,7 @@
 mod Raised
+pub mod Entered
+pub mod Grown
+pub mod Entering
 pub mod HeadsMet
 pub mod Worlds
 pub mod Program

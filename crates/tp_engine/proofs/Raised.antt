@@ -1,5 +1,5 @@
 -- Error terms, cell by cell.
-use Rattle.std.proofs.Common.{◌≡◌, ℕ, ℤ, suc, ◌+◌, ◌<◌, ◌≤◌, pos, List, [], ◌∷◌, ◌++◌, length, Some, slice_get, refl, ap, sym, subst, ◌∙◌, arith, append_assoc, length-append, codes}
+use Rattle.std.proofs.Common.{◌≡◌, ℕ, suc, ◌+◌, ◌<◌, ◌≤◌, pos, List, [], ◌∷◌, ◌++◌, length, Some, slice_get, refl, ap, sym, subst, ◌∙◌, arith, append_assoc, length-append, codes}
 use Rattle.tp_terms.specs.declared.cells.AtomId.{AtomId}
 use Rattle.tp_terms.specs.declared.cells.Ref.{Ref}
 use Rattle.tp_terms.specs.declared.cells.Cell.{Cell}
@@ -8,11 +8,11 @@ use Rattle.tp_terms.specs.declared.symbols.TheConstants.{SLASH, ERROR, INSTANTIA
 use Rattle.tp_terms.specs.Term.{Name, Term, Int, Atom, Comp, NoMore, More, atom, comp}
 use Rattle.tp_terms.specs.Names.{IsTable}
 use Rattle.tp_terms.specs.StartNames.{start_names}
-use Rattle.tp_terms.specs.Shown.{name_at, shows, shown_from, AreNamed, StandsBefore}
-use Rattle.tp_terms.proofs.ShownLemmas.{shows-cell, AreNamed-append}
+use Rattle.tp_terms.specs.Shown.{name_at, shows, shown_from, IsNamed, AreNamed, StandsBefore}
+use Rattle.tp_terms.proofs.ShownLemmas.{shows-cell, shown_from-append, AreNamed-append}
 use Rattle.tp_terms.proofs.StartLemmas.{start-name_at, start-within}
 use Rattle.tp_meaning.specs.Checks.{unbound, type_error, existence_error, indicator, error}
-use Rattle.tp_store.specs.Contents.{Contents, IsStore, Keeps, AddsCells, with_cell}
+use Rattle.tp_store.specs.Contents.{Contents, IsStore, IsNumbered, Keeps, AddsCells, with_cell}
 use Rattle.tp_engine.specs.Built.{Built}
 
 -- the contents with further cells
@@ -45,6 +45,20 @@ adds_trans a b c h k = record {
 slice_get-add : (cs ds : List Cell) (k : ℕ) → slice_get (cs ++ ds) (length cs + k) ≡ slice_get ds k
 slice_get-add [] ds k = ap (slice_get ds) (let e : 0 + k ≡ k = omega arith in e)
 slice_get-add (c ∷ cs) ds k = ap (slice_get ((c ∷ cs) ++ ds)) (let e : suc (length cs) + k ≡ suc (length cs + k) = omega arith in e) ∙ slice_get-add cs ds k
+
+-- a cell that stands at a place may stand behind it
+pub before-longer : (m n : ℕ) (x : Cell) → m ≤ n → StandsBefore m x → StandsBefore n x
+before-longer m n (cell.Var v) le h = tt
+before-longer m n (cell.Int z) le h = tt
+before-longer m n (cell.Atom a) le h = tt
+before-longer m n (cell.Comp f first count) le h = (h.0, let b = h.1 in omega arith)
+
+-- the number of a cell's variable was claimed
+pub numbered_cell : (c : Contents) (at : ℕ) (x : Cell) → IsStore c → slice_get c.cells at ≡ Some x → IsNumbered c.vars x
+numbered_cell c at (cell.Var v) s e = s.numbered at v e
+numbered_cell c at (cell.Int z) s e = tt
+numbered_cell c at (cell.Atom a) s e = tt
+numbered_cell c at (cell.Comp f first count) s e = tt
 
 -- what the k-th of further cells shows
 module _ (names : List Name) (cs ds : List Cell) where
@@ -101,15 +115,17 @@ module _ (names : List Name) (table : IsTable names) where
         built (cell.Atom INSTANTIATION_ERROR ∷ []) at.at unbound e (start-within names table 79 (omega arith), tt) (omega (arith, place))
         (shows-at names old.cells (cell.Atom INSTANTIATION_ERROR ∷ []) 0 at.at (cell.Atom INSTANTIATION_ERROR) (omega (arith, place)) refl tt ∙ ap Atom is_unbound)
 
-    pub number_built : (what at : Ref) (z : ℤ) → what.at ≡ length old.cells → at.at ≡ length old.cells + 2 → new ≡ with_cells old (cell.Atom CALLABLE ∷ cell.Int z ∷ cell.Comp TYPE_ERROR what 2 ∷ []) → Built names old new at.at (type_error "callable" (Int z))
-    number_built what at z first place e =
-        let ds = cell.Atom CALLABLE ∷ cell.Int z ∷ cell.Comp TYPE_ERROR what 2 ∷ [] in
-        built ds at.at (type_error "callable" (Int z)) e (start-within names table 28 (omega arith), (tt, (start-within names table 80 (omega arith), tt))) (omega (arith, place))
+    pub culprit_built : (what at : Ref) (x : Cell) → StandsBefore (length old.cells) x → IsNamed (length names) x → what.at ≡ length old.cells → at.at ≡ length old.cells + 2
+        → new ≡ with_cells old (cell.Atom CALLABLE ∷ x ∷ cell.Comp TYPE_ERROR what 2 ∷ []) → Built names old new at.at (type_error "callable" (shown_from names old.cells x))
+    culprit_built what at x before atoms first place e =
+        let ds = cell.Atom CALLABLE ∷ x ∷ cell.Comp TYPE_ERROR what 2 ∷ [] in
+        let culprit = shown_from names old.cells x in
+        built ds at.at (type_error "callable" culprit) e (start-within names table 28 (omega arith), (atoms, (start-within names table 80 (omega arith), tt))) (omega (arith, place))
         (shows-pair names old.cells ds 2 at.at TYPE_ERROR what place refl (omega (arith, first, place))
         ∙ ap (λ t. Comp (name_at names 80) (More t (More (shows names (old.cells ++ ds) (suc what.at)) NoMore))) (shows-at names old.cells ds 0 what.at (cell.Atom CALLABLE) (omega (arith, first)) refl tt)
-        ∙ ap (λ t. Comp (name_at names 80) (More (Atom (name_at names 28)) (More t NoMore))) (shows-at names old.cells ds 1 (suc what.at) (cell.Int z) (omega (arith, first)) refl tt)
-        ∙ ap (λ f. Comp f (More (Atom (name_at names 28)) (More (Int z) NoMore))) is_type
-        ∙ ap (λ f. comp "type_error" (Atom f ∷ Int z ∷ [])) is_callable)
+        ∙ ap (λ t. Comp (name_at names 80) (More (Atom (name_at names 28)) (More t NoMore))) (shows-at names old.cells ds 1 (suc what.at) x (omega (arith, first)) refl (before-longer (length old.cells) (suc what.at) x (omega (arith, first)) before) ∙ shown_from-append names old.cells ds x before)
+        ∙ ap (λ f. Comp f (More (Atom (name_at names 28)) (More culprit NoMore))) is_type
+        ∙ ap (λ f. comp "type_error" (Atom f ∷ culprit ∷ [])) is_callable)
 
     pub error_built : (kind at : Ref) (process : AtomId) → kind.at + 1 ≡ length old.cells → at.at ≡ length old.cells + 1 → process.at < length names → new ≡ with_cells old (cell.Atom process ∷ cell.Comp ERROR kind 2 ∷ [])
         → ((ds : List Cell) → shows names (old.cells ++ ds) kind.at ≡ shows names old.cells kind.at) → Built names old new at.at (error (shows names old.cells kind.at) (name_at names process.at))

@@ -8,5 +8,6 @@ pub mod Seconds
 pub mod Items
 pub mod Schedule
 pub mod Raise
+pub mod Refuse
 pub mod Clauses
 pub mod Back

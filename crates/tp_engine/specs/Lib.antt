@@ -2,6 +2,7 @@ pub mod Program
 pub mod Code
 pub mod Built
 pub mod Causes
+pub mod Enters
 pub mod Heads
 pub mod Untried
 pub mod Conditions

@@ -4,15 +4,15 @@ use Rattle.std.specs.List.{list_any, position_from}
 use Rattle.tp_terms.specs.declared.world.ItemId.{ItemId}
 use Rattle.tp_terms.specs.declared.world.Slot.{Slot}
 use Rattle.tp_terms.specs.declared.cells.Ref.{Ref}
-use Rattle.tp_terms.specs.Term.{Name, Terms, Var, Int, term_of, count_of, all_replaced}
+use Rattle.tp_terms.specs.Term.{Name, Term, Terms, Var, Int, term_of, count_of, all_replaced}
 use Rattle.tp_terms.specs.Shown.{name_at, args_at}
 use Rattle.tp_meaning.specs.Subst.{value_at}
-use Rattle.tp_meaning.specs.Checks.{unknown}
+use Rattle.tp_meaning.specs.Checks.{unbound, type_error, unknown}
 use Rattle.tp_meaning.specs.declared.goals.GoalKind.{GoalKind}
 use Rattle.tp_meaning.specs.Goals.{goal_kind}
 use Rattle.tp_meaning.specs.Turn.{Turn}
 use Rattle.tp_meaning.specs.Clauses.{Base, Clause, predicate}
-use Rattle.tp_meaning.specs.Step.{goal_by}
+use Rattle.tp_meaning.specs.Step.{goal_by, goal_step}
 use Rattle.tp_store.specs.Contents.{Contents, subst_of, seen}
 use Rattle.tp_control.specs.declared.frames.Item.{Item}
 use Rattle.tp_control.specs.declared.frames.Item.TheVariants.{Goal}
@@ -119,11 +119,18 @@ pub record IsUnknown (m : Machine) (t : Task) (name : ℕ) (count : ℕ) : Type 
   pub number : count_of args ≡ count
   pub unknown : (w : Turn) (b : ℕ) → goal_by (base_in m) w b (name_at m.atoms name) args (goal_kind (name_at m.atoms name) (count_of args)) ≡ Err (unknown (name_at m.atoms name) (count_of args))
 
--- why a goal raises an error
+-- the goal raises an error of this kind, wherever it is met
+abbrev pub GivesError : Machine → Task → Term → Type 0
+GivesError m t kind = (w : Turn) (b : ℕ) →
+    goal_step (base_in m) w b (seen m.atoms m.state.store t.goal.at) ≡ Err kind
+
+-- Why a goal raises an error. It may be unbound itself, or want an argument that is bound.
 abbrev pub IsCause : Machine → Task → Cause → Type 0
-IsCause m t cause.Unbound = (v : ℕ) × (seen m.atoms m.state.store t.goal.at ≡ Var v)
+IsCause m t cause.Unbound = GivesError m t unbound
 IsCause m t (cause.Number value) = seen m.atoms m.state.store t.goal.at ≡ Int value
 IsCause m t (cause.Unknown name count) = IsUnknown m t name.at count
+IsCause m t (cause.NotCallable goal) = (goal.at < length m.state.store.cells) ×
+    GivesError m t (type_error "callable" (seen m.atoms m.state.store goal.at))
 
 -- the running process stands at this goal
 pub record HasCurrent (m : Machine) (t : Task) (c : Call) : Type 0 where

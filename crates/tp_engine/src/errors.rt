@@ -3,10 +3,11 @@
 ghost use Rattle.std.specs.Prelude.{◌≡◌, ◌<◌, ◌+◌, ℤ, pos, List, length, IfOk};
 ghost use Rattle.tp_terms.specs.Term.{Name, Int};
 ghost use Rattle.tp_terms.specs.Names.{IsTable};
-ghost use Rattle.tp_terms.specs.Shown.{AreNamed, name_at, shows};
+ghost use Rattle.tp_terms.specs.Shown.{AreNamed, IsNamed, StandsBefore, name_at, shows, shown_from};
+ghost use Rattle.tp_store.specs.Contents.{IsNumbered};
 ghost use Rattle.tp_meaning.specs.Checks.{unbound, type_error, existence_error, indicator, error};
 ghost use Rattle.tp_engine.specs.Built.{Built};
-ghost use Rattle.tp_engine.specs.Causes.{CauseStands, kind_term};
+ghost use Rattle.tp_engine.specs.Causes.{CauseStands, HasCulprit, kind_term};
 
 use tp_store::Store;
 use tp_terms::symbols::{
@@ -17,12 +18,14 @@ use tp_terms::{AtomId, Cell, NoMemory, Ref};
 /// Why an error is raised.
 #[derive(Clone, Copy, Debug)]
 pub enum Cause {
-    /// A goal is a variable.
+    /// A goal is a variable, or an argument that must be bound is.
     Unbound,
     /// A goal is an integer.
     Number(i64),
     /// A goal has no clauses, by its name and number of arguments.
     Unknown(AtomId, u8),
+    /// The term of a place is entered as a goal, and has no body.
+    NotCallable(Ref),
 }
 
 /// A compound of the two arguments that were placed from `first` on.
@@ -73,14 +76,42 @@ fn unbound_kind(store: &mut Store) -> Result<Ref, NoMemory>
     Ok(kind)
 }
 
+/// The kind of the error that is raised where this cell's term can't be a goal.
+fn culprit_kind(store: &mut Store, culprit: Cell) -> Result<Ref, NoMemory>
+    requires before { StandsBefore (length store.old.cells) culprit }
+    requires numbered { IsNumbered store.old.vars culprit }
+    ensures last { IfOk result (λ kind. kind.at + 1 ≡ length store.new.cells) }
+    ensures built { IfOk result (λ kind. (names : List Name) → IsTable names →
+        AreNamed (length names) store.old.cells → IsNamed (length names) culprit →
+        Built names store.old store.new kind.at
+        (type_error "callable" (shown_from names store.old.cells culprit))) }
+{
+    let what = store.place(Cell::Atom(CALLABLE))?;
+    store.place(culprit)?;
+    let kind = store.place(pair(TYPE_ERROR, what))?;
+    Ok(kind)
+}
+
 /// The kind of the error that an integer as a goal raises.
 fn number_kind(store: &mut Store, value: i64) -> Result<Ref, NoMemory>
     ensures last { IfOk result (λ kind. kind.at + 1 ≡ length store.new.cells) }
     ensures built { IfOk result (λ kind. (names : List Name) → IsTable names → AreNamed (length names) store.old.cells → Built names store.old store.new kind.at (type_error "callable" (Int value))) }
 {
-    let what = store.place(Cell::Atom(CALLABLE))?;
-    store.place(integer(value))?;
-    let kind = store.place(pair(TYPE_ERROR, what))?;
+    let kind = culprit_kind(store, integer(value))?;
+    Ok(kind)
+}
+
+/// The kind of the error that the term of a place raises where it can't be a goal.
+fn term_kind(store: &mut Store, goal: Ref) -> Result<Ref, NoMemory>
+    requires { goal.at < length store.old.cells }
+    ensures last { IfOk result (λ kind. kind.at + 1 ≡ length store.new.cells) }
+    ensures built { IfOk result (λ kind. (names : List Name) → IsTable names →
+        AreNamed (length names) store.old.cells →
+        Built names store.old store.new kind.at
+        (type_error "callable" (shows names store.old.cells goal.at))) }
+{
+    let culprit = store.cells().get(goal);
+    let kind = culprit_kind(store, culprit)?;
     Ok(kind)
 }
 
@@ -97,20 +128,28 @@ fn error(store: &mut Store, kind: Ref, process: AtomId) -> Result<Ref, NoMemory>
 
 /// The kind of an error, at the last place.
 fn kind_of(store: &mut Store, cause: Cause) -> Result<Ref, NoMemory>
+    requires { HasCulprit store.old.cells cause }
     ensures last { IfOk result (λ kind. kind.at + 1 ≡ length store.new.cells) }
-    ensures built { IfOk result (λ kind. (names : List Name) → IsTable names → AreNamed (length names) store.old.cells → CauseStands names cause → Built names store.old store.new kind.at (kind_term names cause)) }
+    ensures built { IfOk result (λ kind. (names : List Name) → IsTable names →
+        AreNamed (length names) store.old.cells → CauseStands names cause →
+        Built names store.old store.new kind.at (kind_term names store.old.cells cause)) }
 {
     match cause {
         Cause::Unbound => unbound_kind(store),
         Cause::Number(value) => number_kind(store, value),
         Cause::Unknown(name, count) => unknown_kind(store, name, count),
+        Cause::NotCallable(goal) => term_kind(store, goal),
     }
 }
 
 /// The place of an error, as a process raises it.
 pub fn raised(store: &mut Store, cause: Cause, process: AtomId) -> Result<Ref, NoMemory>
-    ensures { IfOk result (λ place. (names : List Name) → IsTable names → AreNamed (length names) store.old.cells → CauseStands names cause → process.at < length names →
-        Built names store.old store.new place.at (error (kind_term names cause) (name_at names process.at))) }
+    requires { HasCulprit store.old.cells cause }
+    ensures { IfOk result (λ place. (names : List Name) → IsTable names →
+        AreNamed (length names) store.old.cells → CauseStands names cause →
+        process.at < length names →
+        Built names store.old store.new place.at
+        (error (kind_term names store.old.cells cause) (name_at names process.at))) }
 {
     let kind = kind_of(store, cause)?;
     let place = error(store, kind, process)?;

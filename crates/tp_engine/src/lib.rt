@@ -7,6 +7,7 @@ mod begin;
 mod clauses;
 mod control;
 mod engine;
+mod enter;
 mod errors;
 mod goals;
 mod heads;
