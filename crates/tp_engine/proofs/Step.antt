@@ -5,6 +5,8 @@ pub mod Newest
 pub mod Arrives
 pub mod Control
 pub mod Seconds
+pub mod Called
+pub mod Sides
 pub mod Items
 pub mod Schedule
 pub mod Raise

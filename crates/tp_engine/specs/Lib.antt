@@ -8,7 +8,9 @@ pub mod Untried
 pub mod Conditions
 pub mod Machine
 pub mod Meets
+pub mod Parts
 pub mod Goes
+pub mod Chooses
 pub mod Start
 pub mod Told
 pub mod Phases

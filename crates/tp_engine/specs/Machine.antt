@@ -129,6 +129,8 @@ pub record IsAgain (p : Plain) : Type 0 where
 
 -- control goals that give two worlds
 abbrev pub has_second : ControlGoal → Bool
+has_second control.Disjunction = true
+has_second control.NotProvable = true
 has_second control.Repeat = true
 has_second goal = false
 

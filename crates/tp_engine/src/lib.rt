@@ -13,6 +13,7 @@ mod goals;
 mod heads;
 mod items;
 mod machine;
+mod parts;
 mod phase;
 mod run;
 mod schedule;

@@ -55,6 +55,6 @@ arrives m t is s i h stand f e =
           other-world m.atoms p (plain_of s) t.process m.stamp i.stands o h.running
           ∙ ap (λ (c : Contents). with_items t.process (map (item_of m.atoms c) (items_at (plain_of s).frames (plain_of s).items)) (stamped (world_in m))) (ap (λ (q : Plain). q.store) o.is)
           ∙ ap (λ l. with_items t.process (map (item_of m.atoms m.state.store) l) (stamped (world_in m)))
-            (ap (λ (q : Plain). items_at q.frames q.items) e ∙ pushes-items is (resting t.rest p))
+          (ap (λ (q : Plain). items_at q.frames q.items) e ∙ pushes-items is (resting t.rest p))
           ∙ ap (λ l. with_items t.process l (stamped (world_in m))) (map-split (item_of m.atoms m.state.store) is (items_at m.state.frames t.rest));
     }

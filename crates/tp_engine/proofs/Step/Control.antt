@@ -1,10 +1,10 @@
 -- Steps of control goals.
-use Rattle.std.proofs.Common.{◌≡◌, ℕ, zero, suc, ◌+◌, ◌<◌, ◌≤◌, List, [], ◌∷◌, map, take, length, Some, Err, refl, ap, sym, subst, ◌∙◌, arith}
+use Rattle.std.proofs.Common.{◌≡◌, ℕ, zero, suc, ◌+◌, ◌<◌, ◌≤◌, Bool, true, false, nat_eq, eqb-true, if◌then◌else◌, List, [], ◌∷◌, map, take, length, Some, Err, refl, ap, sym, subst, ◌∙◌, arith}
 use Rattle.tp_terms.specs.declared.cells.Ref.{Ref}
 use Rattle.tp_terms.specs.Term.{Name, Terms, count_of}
 use Rattle.tp_terms.specs.Shown.{name_at}
 use Rattle.tp_terms.proofs.NameLemmas.{Grows-same}
-use Rattle.tp_meaning.specs.Control.{arg, if_then}
+use Rattle.tp_meaning.specs.Control.{arg, called, if_then}
 use Rattle.tp_meaning.specs.declared.goals.GoalKind.{GoalKind}
 use Rattle.tp_meaning.specs.declared.goals.GoalKind.TheVariants.{Control}
 use Rattle.tp_meaning.specs.declared.goals.GoalKind.TheVariants as kind
@@ -66,7 +66,7 @@ other-to m s n r items is o e run ei =
     ∙ ap (λ l. with_items r (map (item_of m.atoms m.state.store) l) (stamped (world_in m))) ei
 
 -- an argument of a goal
-arg-is : (names : List Name) (c : Contents) (a n k : ℕ) → k < n → arg k (args_seen names c a n) ≡ seen names c (a + k)
+pub arg-is : (names : List Name) (c : Contents) (a n k : ℕ) → k < n → arg k (args_seen names c a n) ≡ seen names c (a + k)
 arg-is names c a zero k lt = absurd (omega arith)
 arg-is names c a (suc n) zero lt = ap (seen names c) (let z : a ≡ a + 0 = omega arith in z)
 arg-is names c a (suc n) (suc k) lt = arg-is names c (suc a) n k (omega arith) ∙ ap (seen names c) (let z : suc a + k ≡ a + suc k = omega arith in z)
@@ -155,15 +155,6 @@ module _ (m : Machine) (t : Task) (c : Call) (is : IsMachine m) where
       ∙ ap one (sym a.world))
 
 -- a goal of the language that isn't there yet is unknown
-unknown-control : (base : Base) (w : Turn) (b : ℕ) (f : Name) (ts : Terms) (g : ControlGoal) → (g ≡ control.True → ⊥) → (g ≡ control.Fail → ⊥) → (g ≡ control.Conjunction → ⊥) → (g ≡ control.Cut → ⊥) → (g ≡ control.IfThen → ⊥) → (g ≡ control.Repeat → ⊥) → goal_by base w b f ts (Some (Control g)) ≡ Err (unknown f (count_of ts))
-unknown-control base w b f ts control.True x y z u v q = absurd (x refl)
-unknown-control base w b f ts control.Fail x y z u v q = absurd (y refl)
-unknown-control base w b f ts control.Conjunction x y z u v q = absurd (z refl)
-unknown-control base w b f ts control.Cut x y z u v q = absurd (u refl)
-unknown-control base w b f ts control.IfThen x y z u v q = absurd (v refl)
-unknown-control base w b f ts control.Repeat x y z u v q = absurd (q refl)
-unknown-control base w b f ts _ x y z u v q = refl
-
 pub is_unknown : (m : Machine) (t : Task) (c : Call) (k : GoalKind) → Calls m t c (Some k) → ((w : Turn) (b : ℕ) (f : Name) (ts : Terms) → goal_by (base_in m) w b f ts (Some k) ≡ Err (unknown f (count_of ts))) → IsUnknown m t c.name.at c.count
 is_unknown m t c k h e =
     let number = count-seen m.atoms m.state.store c.first.at c.count in
@@ -177,8 +168,30 @@ is_unknown m t c k h e =
       unknown = λ w b. ap (goal_by (base_in m) w b f args) (ap (goal_kind f) number ∙ h.kind) ∙ e w b f args;
     }
 
-pub not_there : (m : Machine) (t : Task) (c : Call) (g : ControlGoal) → Calls m t c (Some (Control g)) → (g ≡ control.True → ⊥) → (g ≡ control.Fail → ⊥) → (g ≡ control.Conjunction → ⊥) → (g ≡ control.Cut → ⊥) → (g ≡ control.IfThen → ⊥) → (g ≡ control.Repeat → ⊥) → IsUnknown m t c.name.at c.count
-not_there m t c g h x y z u v q = is_unknown m t c (Control g) h (λ w b f ts. unknown-control (base_in m) w b f ts g x y z u v q)
+pub between_unknown : (m : Machine) (t : Task) (c : Call) → Calls m t c (Some (Control control.Between)) → IsUnknown m t c.name.at c.count
+between_unknown m t c h = is_unknown m t c (Control control.Between) h (λ w b f ts. refl)
+
+-- `call` with more than one argument
+pub call_unknown : (m : Machine) (t : Task) (c : Call) → Calls m t c (Some (Control control.Call)) → (c.count ≡ 1 → ⊥) → IsUnknown m t c.name.at c.count
+call_unknown m t c h more =
+    let number = count-seen m.atoms m.state.store c.first.at c.count in
+    let f = name_at m.atoms c.name.at in
+    let args = args_seen m.atoms m.state.store c.first.at c.count in
+    record {
+      named = h.call.name;
+      args = args;
+      is = h.call.is;
+      number = number;
+      unknown = λ w b. ap (goal_by (base_in m) w b f args) (ap (goal_kind f) number ∙ h.kind)
+          ∙ ap (λ o. if o then called w (arg 0 args) else Err (unknown f (count_of args))) (ap (λ n. nat_eq n 1) number ∙ other c.count more);
+    }
+  where
+    other : (n : ℕ) → (n ≡ 1 → ⊥) → nat_eq n 1 ≡ false
+    other n h = by (nat_eq n 1) refl
+      where
+        by : (b : Bool) → nat_eq n 1 ≡ b → b ≡ false
+        by true e = absurd (h (eqb-true n 1 e))
+        by false e = refl
 
 pub not_control : (m : Machine) (t : Task) (c : Call) (k : GoalKind) → Calls m t c (Some k) → ((g : ControlGoal) → k ≡ Control g → ⊥) → IsUnknown m t c.name.at c.count
 not_control m t c k h x = is_unknown m t c k h (go k x)

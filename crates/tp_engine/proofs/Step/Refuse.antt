@@ -31,7 +31,7 @@ by_kind base w b f NoMore = refl
 by_kind base w b f (More t ts) = refl
 
 -- the first argument of a goal
-first_arg : (names : List Name) (c : Contents) (a n : ℕ) → 1 ≤ n → arg 0 (args_seen names c a n) ≡ seen names c a
+pub first_arg : (names : List Name) (c : Contents) (a n : ℕ) → 1 ≤ n → arg 0 (args_seen names c a n) ≡ seen names c a
 first_arg names c a zero le = absurd (omega arith)
 first_arg names c a (suc n) le = refl
 

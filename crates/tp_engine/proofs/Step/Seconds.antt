@@ -34,6 +34,7 @@ use Rattle.tp_engine.specs.Conditions.{pushes}
 use Rattle.tp_engine.specs.Untried.{untried_by, untried_goal, untried_named, second_in, second_of}
 use Rattle.tp_engine.specs.Machine.{IsMachine, IsAgain, IsChoosing, IsSecond, Steps, Resumes, again, choosing, base_in, has_second, world_in}
 use Rattle.tp_engine.specs.Meets.{Calls, HasCurrent, IsCall, args_seen}
+use Rattle.tp_engine.specs.Chooses.{Chooses}
 use Rattle.tp_engine.specs.Goes.{Goes, IsKept, MayKeep, Returns, untried_in}
 use Rattle.tp_engine.proofs.Step.First.{call-gives, count-seen, items-there, process_there, rest_in, standing, turn_in}
 use Rattle.tp_engine.proofs.Step.Newest.{newest_below}
@@ -126,21 +127,16 @@ module _ (m : Machine) (t : Task) (c : Call) (k : ControlGoal) (h : Calls m t c 
 -- ---- after going back
 
 -- the goal that the running process stands at is the one that gave two worlds
-pub record Chooses (m : Machine) (t : Task) (c : Call) : Type 0 where
-  pub control : ControlGoal
-  pub two : has_second control ≡ true
-  pub calls : Calls m t c (Some (Control control))
-
-pub chooses : (m : Machine) (t : Task) (c : Call) → Returns m Second → HasCurrent m t c → Chooses m t c
+pub chooses : (m : Machine) (t : Task) (c : Call) → Returns m Second → HasCurrent m t c → (k : ControlGoal) × Chooses m t c k
 chooses m t c back at = by back.goes_on
   where
     first : (a b : Ref) (x y : ℕ) (xs ys : List Item) → ◌≡◌ {A = List Item} (Goal a x ∷ xs) (Goal b y ∷ ys) → a ≡ b
     first a b x y xs ys e = cc
 
-    no-retry : (a b : Ref) (y : ℕ) (xs ys : List Item) → ◌≡◌ {A = List Item} (Retry a ∷ xs) (Goal b y ∷ ys) → Chooses m t c
+    no-retry : (a b : Ref) (y : ℕ) (xs ys : List Item) → ◌≡◌ {A = List Item} (Retry a ∷ xs) (Goal b y ∷ ys) → (k : ControlGoal) × Chooses m t c k
     no-retry a b y xs ys e = absurd (cc)
 
-    by : IsSecond m.atoms (plain_of m.state) → Chooses m t c
+    by : IsSecond m.atoms (plain_of m.state) → (k : ControlGoal) × Chooses m t c k
     by (again a) = no-retry a.goal t.goal t.barrier a.rest (items_at m.state.frames t.rest) (sym a.list ∙ at.list)
     by (choosing a) =
         let goal-same : a.goal ≡ t.goal = first a.goal t.goal a.barrier t.barrier a.rest (items_at m.state.frames t.rest) (sym a.list ∙ at.list) in
@@ -148,16 +144,17 @@ chooses m t c back at = by back.goes_on
         let ts = args_seen m.atoms m.state.store c.first.at c.count in
         let same : term_of a.name a.args ≡ term_of f' ts = sym a.is ∙ ap (λ (r : Ref). seen m.atoms m.state.store r.at) goal-same ∙ at.call.is in
         let named = name-same a.name f' a.args ts same in
-        let counted : count_of a.args ≡ c.count = ap count_of (args-same a.name f' a.args ts same) ∙ count-seen m.atoms m.state.store c.first.at c.count in
-        record {
-          control = a.control;
-          two = a.two;
-          calls = record {
-            meets = record { standing = standing m back.machine; running = at.running; few = back.few; list = at.list; stands = at.goal; rest = at.rest };
-            call = at.call;
-            kind = ap (λ g. goal_kind g c.count) (sym named) ∙ ap (goal_kind a.name) (sym counted) ∙ a.kind;
-          };
-        }
+        let counted : count_of a.args ≡ c.count = ap count_of (args-same a.name f' a.args ts same) ∙ count-seen m.atoms m.state.store c.first.at c.count in (
+          a.control,
+          record {
+            two = a.two;
+            calls = record {
+              meets = record { standing = standing m back.machine; running = at.running; few = back.few; list = at.list; stands = at.goal; rest = at.rest };
+              call = at.call;
+              kind = ap (λ g. goal_kind g c.count) (sym named) ∙ ap (goal_kind a.name) (sym counted) ∙ a.kind;
+            };
+          },
+        )
 
 -- where it stands at no goal with a name, it waits for a condition
 pub waits : (m : Machine) (r : ℕ) → Returns m Second → m.state.running ≡ Some r → ((g : Ref) (b : ℕ) (rest : List Item) (f : Name) (ts : Terms) → items_at m.state.frames m.state.items ≡ Goal g b ∷ rest → seen m.atoms m.state.store g.at ≡ term_of f ts → (p : ℕ) → m.state.running ≡ Some p → ⊥) → IsAgain (plain_of m.state)
@@ -166,3 +163,17 @@ waits m r back run none = by back.goes_on
     by : IsSecond m.atoms (plain_of m.state) → IsAgain (plain_of m.state)
     by (again a) = a
     by (choosing a) = absurd (none a.goal a.barrier a.rest a.name a.args a.list a.is r run)
+
+-- no other control goal gives two worlds
+pub seconds_only : (k : ControlGoal) → has_second k ≡ true → (k ≡ control.Disjunction → ⊥) → (k ≡ control.NotProvable → ⊥) → (k ≡ control.Repeat → ⊥) → ⊥
+seconds_only control.Disjunction e x y z = x refl
+seconds_only control.NotProvable e x y z = y refl
+seconds_only control.Repeat e x y z = z refl
+seconds_only control.True e x y z = cc
+seconds_only control.Fail e x y z = cc
+seconds_only control.Conjunction e x y z = cc
+seconds_only control.Cut e x y z = cc
+seconds_only control.IfThen e x y z = cc
+seconds_only control.Call e x y z = cc
+seconds_only control.Once e x y z = cc
+seconds_only control.Between e x y z = cc

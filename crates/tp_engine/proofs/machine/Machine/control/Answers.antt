@@ -2,11 +2,11 @@ use Rattle.std.proofs.Common.{subst}
 use Rattle.std.specs.Prelude.{Some}
 use Rattle.tp_meaning.specs.declared.goals.GoalKind.TheVariants.{Control}
 use Rattle.tp_engine.specs.Meets.{Calls}
-use Rattle.tp_engine.proofs.Step.Control.{fails, not_there}
+use Rattle.tp_engine.proofs.Step.Control.{fails, between_unknown}
 use Rattle.tp_engine.proofs.machine.Machine.control.Goals as goal
 
 pub returns-in-Fail-clause-done : goal.returns-in-Fail-clause-done
 returns-in-Fail-clause-done c = fails c.args.self.now c.args.task c.args.call c.requires.machine (subst (λ g. Calls c.args.self.now c.args.task c.args.call (Some (Control g))) c.in-Fail.is c.requires.call)
 
 pub raise-requires-clause-cause : goal.raise-requires-clause-cause
-raise-requires-clause-cause c = not_there c.args.self.now c.args.task c.args.call c.args.goal c.requires.call c.in_default.not-True c.in_default.not-Fail c.in_default.not-Conjunction c.in_default.not-Cut c.in_default.not-IfThen c.in_default.not-Repeat
+raise-requires-clause-cause c = between_unknown c.args.self.now c.args.task c.args.call (subst (λ g. Calls c.args.self.now c.args.task c.args.call (Some (Control g))) c.in-Between.is c.requires.call)
