@@ -20,4 +20,6 @@ mod meaning;
 #[cfg(test)]
 mod procs;
 #[cfg(test)]
+mod state;
+#[cfg(test)]
 mod store;
