@@ -158,6 +158,14 @@ impl<'a> Engine<'a> {
         Ok(())
     }
 
+    /// Which call was the last, with its answer; the calls that may come next follow from it.
+    /// Takes no memory.
+    pub fn phase(&self) -> Phase
+        ensures { result ≡ self.now.phase }
+    {
+        self.phase
+    }
+
     /// The engine's own state, as it stands. Takes no memory.
     pub fn view(&self) -> AnswerView<'_>
         ensures view { result ≡ self.now.seen }

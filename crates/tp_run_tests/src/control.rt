@@ -14,6 +14,7 @@ const MARKS: Marks = Marks {
     clock: -8,
     insertion: 6,
     running: Some(1),
+    first: None,
 };
 
 #[test]

@@ -47,8 +47,9 @@ enum Call {
 fn may_step(engine: &Engine<'_>) -> bool
     ensures { IsTrue result → MayStep engine.now.phase engine.now.seen.steps }
 {
-    match engine.phase {
-        Phase::New | Phase::Resumed | Phase::Stepped(Stepped::Went) => engine.steps < u64::MAX,
+    match engine.phase() {
+        Phase::New | Phase::Resumed | Phase::Stepped(Stepped::Went) => engine.view().steps()
+            < u64::MAX,
         _ => false,
     }
 }
@@ -58,7 +59,7 @@ fn may_rewind(engine: &Engine<'_>) -> bool
     ensures { IsTrue result → MayRewind engine.now.phase }
 {
     matches!(
-        engine.phase,
+        engine.phase(),
         Phase::Stepped(Stepped::Success | Stepped::Dead(_))
     )
 }
@@ -67,7 +68,7 @@ fn may_rewind(engine: &Engine<'_>) -> bool
 fn may_resume(engine: &Engine<'_>) -> bool
     ensures { IsTrue result → MayResume engine.now.phase }
 {
-    matches!(engine.phase, Phase::Rewound(true))
+    matches!(engine.phase(), Phase::Rewound(true))
 }
 
 /// Whether a call may come, and answers what it is to.

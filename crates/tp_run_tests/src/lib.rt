@@ -1,5 +1,6 @@
 //! The tests of the crates that hold and run a world: each public function once, on values from
 //! outside. They stand in a crate of their own, so that no crate is proved twice.
+#![tactic(auto)]
 
 #[cfg(test)]
 mod calendar;
@@ -19,5 +20,7 @@ mod mail;
 mod meaning;
 #[cfg(test)]
 mod procs;
+#[cfg(test)]
+mod state;
 #[cfg(test)]
 mod store;

@@ -34,7 +34,8 @@ impl State {
         ensures plain { plain_of self.new
             ≡ with_parts (undo entry (parts_of (plain_of self.old))) (plain_of self.old) }
         ensures log { self.new.log ≡ self.old.log }
-        ensures rooms { Covers (undo_rooms entry (held_of self.old).rooms) (held_of self.new).rooms }
+        ensures rooms { Covers (undo_rooms entry (held_of self.old).rooms)
+            (held_of self.new).rooms }
     {
         match entry {
             Entry::Bind(number) => self.store.undo_bind(number),
