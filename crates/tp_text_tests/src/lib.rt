@@ -1,4 +1,4 @@
-//! The tests of the crates that read and write text: each public function once, on values from
+//! The tests of the crates that read texts and tokens: each public function once, on values from
 //! outside. They stand in a crate of their own, so that no crate is proved twice.
 #![tactic(auto)]
 
@@ -7,10 +7,4 @@ mod lex;
 #[cfg(test)]
 mod outside;
 #[cfg(test)]
-mod parse;
-#[cfg(test)]
-mod report;
-#[cfg(test)]
 mod terms;
-#[cfg(test)]
-mod write;

@@ -1,6 +1,0 @@
-use Rattle.std.specs.List.{AllByRecursion}
-use Rattle.tp_terms.specs.Events.{EventStands}
-use Rattle.tp_text_tests.proofs.report.standing.Given as goal
-
-abbrev pub invariant-loop-event : goal.invariant-loop-event
-invariant-loop-event l = AllByRecursion (EventStands l.names l.cells l.processes) l.history
