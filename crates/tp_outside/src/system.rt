@@ -29,8 +29,8 @@ impl<F> Opened<F> {
 }
 
 /// The files that a runtime reaches. A name is a path. The file stays open from one piece to the
-/// next, so that a pipe can be read: a read that goes on where the last one ended reads on, and each
-/// other one opens the file anew. Every error is a fault, also that a file isn't there or that
+/// next, so that a pipe can be read: a read that goes on where the last one ended reads on, and
+/// each other one opens the file anew. Every error is a fault, also that a file isn't there or that
 /// memory is refused, and then no file stays open.
 #[derive(Drop)]
 pub struct FileShelf<'a, R: Files> {

@@ -1,5 +1,5 @@
 -- The table of operators: types by their names, entries by texts, and the table of the start.
-use Rattle.std.proofs.Common.{◌≡◌, ◌≢◌, ℕ, Bool, true, false, ◌⊎◌, inl, inr, List, [], ◌∷◌, map, Option, Some, None, codes, string_bytes, refl, sym, ap, cond, true≢false, ◌∙◌, if◌then◌else◌}
+use Rattle.std.proofs.Common.{◌≡◌, ◌≢◌, ℕ, ◌<◌, ◌≤◌, length, subst, arith, Bool, true, false, ◌⊎◌, inl, inr, List, [], ◌∷◌, map, Option, Some, None, codes, string_bytes, refl, sym, ap, cond, true≢false, ◌∙◌, if◌then◌else◌}
 use Rattle.std.proofs.Math.Path.{fun_ext}
 use Rattle.std.proofs.lemmas.Str.{IsUtf8-string_bytes, IsUtf8-from_is_utf8}
 use Rattle.std.proofs.lemmas.Slice.Eq.{bytes_eq-Decides}
@@ -14,7 +14,7 @@ use Rattle.tp_terms.proofs.TextLemmas.{names_eq-chars, names_eq-apart, names_eq-
 use Rattle.tp_parse.specs.declared.table.TheConstants.{START_OPERATORS}
 use Rattle.tp_parse.specs.Table.{Op, Table, changed, type_of, is_kept_name, empty_table, start_table}
 use Rattle.tp_parse.specs.Start.{with_operators}
-use Rattle.tp_parse.specs.Ops.{Entries, found_in, entries_of, table_of}
+use Rattle.tp_parse.specs.Ops.{Entries, found_in, entries_of, table_of, AreWithin}
 
 -- a text that isn't this one has another name
 apart : (bytes text : List ℕ) → IsUtf8 bytes → is_utf8 text ≡ true → chars text ≡ text → bytes ≢ text → names_eq (chars bytes) text ≡ false
@@ -54,6 +54,39 @@ found-some es bytes entry u e = ap flat e ∙ sym (found_in-lookup es bytes u)
 
 pub found-none : (es : Texts) (bytes : List ℕ) → IsUtf8 bytes → None ≡ lookup (λ k. bytes_eq bytes (string_bytes k)) es → None ≡ found_in (entries_of es) (chars bytes)
 found-none es bytes u e = ap flat e ∙ sym (found_in-lookup es bytes u)
+
+-- a name of more bytes than all that are there has no entry
+pub found-longer : (es : Texts) (n : ℕ) (bytes : List ℕ) → IsUtf8 bytes → AreWithin n es → n < length bytes → None ≡ found_in (entries_of es) (chars bytes)
+found-longer es n bytes u w l = found-none es bytes u (sym (absent es w))
+  where
+    absent : (es : Texts) → AreWithin n es → lookup (λ k. bytes_eq bytes (string_bytes k)) es ≡ None
+    absent [] w = refl
+    absent (e ∷ es) w = by (bytes_eq bytes (string_bytes e.0)) refl (absent es w.1)
+      where
+        by : (t : Bool) → bytes_eq bytes (string_bytes e.0) ≡ t → lookup (λ k. bytes_eq bytes (string_bytes k)) es ≡ None → cond t (Some e.1) (lookup (λ k. bytes_eq bytes (string_bytes k)) es) ≡ None
+        by true h more = absurd (omega (arith, w.0, l, ap length ((bytes_eq-Decides bytes (string_bytes e.0)).0 h)))
+        by false h more = more
+
+within-more : (es : Texts) (n m : ℕ) → n ≤ m → AreWithin n es → AreWithin m es
+within-more [] n m l w = tt
+within-more (e ∷ es) n m l w = (let a = w.0 in omega arith, within-more es n m l w.1)
+
+within-insert : (es : Texts) (n : ℕ) (key : String Global) (entry : Option Op) → length (string_bytes key) ≤ n → AreWithin n es → AreWithin n (insert_entry string_eq es key entry)
+within-insert [] n key entry l w = (l, tt)
+within-insert (e ∷ es) n key entry l w = by (string_eq key e.0) (within-insert es n key entry l w.1)
+  where
+    by : (b : Bool) → AreWithin n (insert_entry string_eq es key entry) → AreWithin n (cond b ((e.0, entry) ∷ es) (e ∷ insert_entry string_eq es key entry))
+    by true more = (w.0, w.1)
+    by false more = (w.0, more)
+
+-- after an entry is set
+pub within-inserted : (old new : Texts) (n m : ℕ) (key : String Global) (bytes : List ℕ) (entry : Option Op) → new ≡ insert_entry string_eq old key entry → string_bytes key ≡ bytes → n ≤ m → length bytes ≤ m → AreWithin n old → AreWithin m new
+within-inserted old new n m key bytes entry e same l k w =
+    subst (AreWithin m) (sym e) (within-insert old m key entry (omega (arith, k, ap length same)) (within-more old n m l w))
+
+-- where the entries stay
+pub within-same : (old new : Texts) (n m : ℕ) → new ≡ old → n ≤ m → AreWithin n old → AreWithin m new
+within-same old new n m e l w = subst (AreWithin m) (sym e) (within-more old n m l w)
 
 -- an entry that is inserted is the one that its name has
 inserted-at : (es : Texts) (key : String Global) (entry : Option Op) (n : Name) → found_in (entries_of (insert_entry string_eq es key entry)) n ≡ changed (chars (string_bytes key)) entry (found_in (entries_of es)) n

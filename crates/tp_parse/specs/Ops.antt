@@ -1,5 +1,5 @@
 -- Operators, as contracts see the table that is kept.
-use Rattle.std.specs.Prelude.{◌≡◌, ℕ, List, [], ◌∷◌, map, Option, None, Result, Ok, Err, if◌then◌else◌, chars, string_bytes}
+use Rattle.std.specs.Prelude.{◌≡◌, ◌≤◌, ℕ, List, length, [], ◌∷◌, map, Option, None, Result, Ok, Err, if◌then◌else◌, chars, string_bytes}
 use Rattle.std.specs.declared.alloc.Global.{Global}
 use Rattle.std.specs.declared.string.String.{String}
 use Rattle.tp_terms.specs.Term.{Name, names_eq}
@@ -23,6 +23,11 @@ table_of e = record { prefixes = found_in e.prefixes; infixes = found_in e.infix
 -- the entries of some texts, by their characters
 abbrev pub entries_of : List (String Global × Option Op) → List (Name × Option Op)
 entries_of = map (λ e. (chars (string_bytes e.0), e.1))
+
+-- no name of these texts has more bytes than so many
+abbrev pub AreWithin : ℕ → List (String Global × Option Op) → Type 0
+AreWithin n [] = Unit {0}
+AreWithin n (e ∷ es) = (length (string_bytes e.0) ≤ n) × AreWithin n es
 
 -- what adding an operator answers, with this table afterwards, where memory wasn't refused
 abbrev pub TellsAdd : {A : Type 0} → Table → Result A OpFault → Result Table OpFault → Type 0

@@ -17,9 +17,15 @@ use Rattle.tp_parse.specs.declared.steps.Label.TheVariants as label
 use Rattle.tp_parse.specs.declared.steps.Step.{Step}
 use Rattle.tp_parse.specs.declared.steps.Step.TheVariants as step
 
+-- the token of this kind from one byte up to another, and its name as a label
+abbrev pub token_at : TokenKind → ℕ → ℕ → Token
+token_at k from to = record { kind = k; from = from; to = to }
+
+abbrev pub written : Token → Label
+written token = label.Written token.kind token.from token.to
+
 abbrev pub label_name : List ℕ → Label → Name
-label_name text (label.Written token) = token_name text token
-label_name text label.ListCell = codes "."
+label_name text (label.Written k from to) = token_name text (token_at k from to)
 label_name text label.EmptyList = codes "[]"
 label_name text label.Braces = codes "{}"
 label_name text label.Comma = codes ","
@@ -31,13 +37,21 @@ row zero made more = more
 row (suc n) [] more = more
 row (suc n) (t ∷ made) more = row n made (first_of t more)
 
+-- the last tree becomes the tail of a list of so many trees before it
+abbrev pub linked : ℕ → List Tree → List Tree
+linked zero made = made
+linked (suc n) [] = []
+linked (suc n) (t ∷ []) = t ∷ []
+linked (suc n) (t ∷ u ∷ made) = linked n (list_cell u t ∷ made)
+
 -- the trees after a step
 abbrev pub act : List ℕ → Step → List Tree → List Tree
 act text (step.Variable token) made = Variable (token_name text token) ∷ made
 act text (step.Integer value) made = Integer value ∷ made
 act text (step.Atom name) made = Atom (label_name text name) ∷ made
-act text (step.Compound name count) made =
+act text (step.Compound count name) made =
     Compound (label_name text name) (row count made none) ∷ drop count made
+act text (step.List count) made = linked count made
 
 -- the trees after these steps
 abbrev pub run : List ℕ → List Tree → List Step → List Tree
@@ -52,7 +66,7 @@ abbrev pub HasName : List ℕ → Token → Type 0
 HasName text token = IsTokenOf text token × IsTrue (has_name token.kind)
 
 abbrev pub IsLabel : List ℕ → Label → Type 0
-IsLabel text (label.Written token) = HasName text token
+IsLabel text (label.Written k from to) = HasName text (token_at k from to)
 IsLabel text name = Unit {0}
 
 -- the step can be made where there are so many trees
@@ -60,7 +74,8 @@ abbrev pub IsReady : List ℕ → ℕ → Step → Type 0
 IsReady text n (step.Variable token) = HasName text token × (token.kind ≡ kind.Variable)
 IsReady text n (step.Integer value) = Unit {0}
 IsReady text n (step.Atom name) = IsLabel text name
-IsReady text n (step.Compound name count) = IsLabel text name × (0 < count) × (count ≤ n)
+IsReady text n (step.Compound count name) = IsLabel text name × (0 < count) × (count ≤ n)
+IsReady text n (step.List count) = count < n
 
 abbrev pub AreReady : List ℕ → List Tree → List Step → Type 0
 AreReady text made [] = Unit {0}
@@ -71,7 +86,7 @@ AreReady text made (s ∷ steps) =
 
 abbrev pub label_by : TokenKind → Token → Label
 label_by kind.Comma token = label.Comma
-label_by k token = label.Written token
+label_by k token = written token
 
 abbrev pub labelled : Word → Option Op → Option (Label × Op)
 labelled w None = None
@@ -96,13 +111,6 @@ count (first_of t ts) = suc (count ts)
 abbrev pub list_of : Trees → Tree → Tree
 list_of none tail = tail
 list_of (first_of t ts) tail = list_cell t (list_of ts tail)
-
--- the last tree becomes the tail of a list of so many trees before it
-abbrev pub linked : ℕ → List Tree → List Tree
-linked zero made = made
-linked (suc n) [] = []
-linked (suc n) (t ∷ []) = t ∷ []
-linked (suc n) (t ∷ u ∷ made) = linked n (list_cell u t ∷ made)
 
 -- the last tree, and those before it
 abbrev pub top_of : List Tree → Tree

@@ -1,13 +1,14 @@
 //! The cells of a term, from the steps that make it.
 
-ghost use Rattle.std.specs.Prelude.{◌≡◌, ◌+◌, ◌<◌, ◌≤◌, ◌^◌, ℕ, List, [], ◌∷◌, ◌++◌, length, take, drop, slice_get, chars, Some, IfOk, OnOk};
-ghost use Rattle.tp_terms.specs.Names.{Grows, with_name};
+ghost use Rattle.std.specs.Prelude.{◌≡◌, ◌+◌, ◌<◌, ◌≤◌, ◌^◌, ℕ, List, [], ◌∷◌, ◌++◌, length, take, drop, slice_get, chars, codes, Some, IfOk, OnOk};
+ghost use Rattle.tp_terms.specs.Names.{Grows, IsTable, with_name};
 ghost use Rattle.tp_terms.specs.Term.{Name};
 ghost use Rattle.tp_terms.specs.Shown.{AreNamed};
 ghost use Rattle.tp_lex.specs.Next.{token_name};
 ghost use Rattle.tp_parse.specs.Making.{AllBefore, IsBuilt, IsGathered, IsMade};
+ghost use Rattle.tp_parse.specs.Numbers.{no_numbers};
 ghost use Rattle.tp_parse.specs.NewNames.{AddsOnly, writes_any};
-ghost use Rattle.tp_parse.specs.Steps.{AreReady, HasName, IsLabel, IsReady, act, label_name, trees_of};
+ghost use Rattle.tp_parse.specs.Steps.{AreReady, HasName, IsLabel, IsReady, act, label_name, linked, trees_of};
 ghost use Rattle.tp_parse.specs.Tree.{Tree};
 
 use crate::steps::{Label, Step};
@@ -15,6 +16,7 @@ use crate::variables::Variables;
 use crate::words::plain_name;
 use std::alloc::Global;
 use tp_lex::{Token, TokenKind, token_text};
+use tp_terms::symbols::{BRACES, CONJUNCTION, EMPTY_LIST, LIST_CELL};
 use tp_terms::{AtomId, Atoms, Cell, Cells, NoMemory, Ref};
 
 /// Terms that are being made.
@@ -50,6 +52,15 @@ fn intern_token(
     }
 }
 
+/// The atom of a place that has the same name in every table.
+fn start_atom(atom: AtomId, atoms: &Atoms) -> AtomId
+    ensures same { result ≡ atom }
+    ensures table { IsTable atoms.now }
+{
+    let _count = atoms.len();
+    atom
+}
+
 /// The atom of a name.
 fn intern(alloc: Global, text: &str, label: Label, atoms: &mut Atoms) -> Result<AtomId, NoMemory>
     requires { IsLabel text.now label }
@@ -59,11 +70,12 @@ fn intern(alloc: Global, text: &str, label: Label, atoms: &mut Atoms) -> Result<
     ensures grows { Grows atoms.old atoms.new }
 {
     match label {
-        Label::Written(token) => intern_token(alloc, text, token, atoms),
-        Label::ListCell => atoms.intern("."),
-        Label::EmptyList => atoms.intern("[]"),
-        Label::Braces => atoms.intern("{}"),
-        Label::Comma => atoms.intern(","),
+        Label::Written { kind, from, to } => {
+            intern_token(alloc, text, Token { kind, from, to }, atoms)
+        }
+        Label::EmptyList => Ok(start_atom(EMPTY_LIST, atoms)),
+        Label::Braces => Ok(start_atom(BRACES, atoms)),
+        Label::Comma => Ok(start_atom(CONJUNCTION, atoms)),
     }
 }
 
@@ -95,6 +107,21 @@ fn gather(making: &mut Making, name: AtomId, count: u8) -> Result<(), NoMemory>
     Ok(())
 }
 
+/// Makes the last term the tail of a list of so many terms before it.
+fn link(making: &mut Making, cell: AtomId, count: usize) -> Result<(), NoMemory>
+    requires enough { count < length making.old.made.items }
+    requires stands { AllBefore (length making.old.cells.items) making.old.made.items }
+    ensures made { OnOk result ((names : List Name) (trees : List Tree) →
+        slice_get names cell.at ≡ Some (codes ".") → IsMade names making.old trees →
+        IsMade names making.new (linked count trees)) }
+    ensures variables { OnOk result (making.new.variables ≡ making.old.variables) }
+{
+    'links: for _ in 0..count {
+        gather(making, cell, 2)?;
+    }
+    Ok(())
+}
+
 /// Takes a step.
 fn take_step(
     alloc: Global,
@@ -123,12 +150,35 @@ fn take_step(
             let name = intern(alloc, text, label, atoms)?;
             making.made.push(Cell::Atom(name))?;
         }
-        Step::Compound(label, count) => {
+        Step::Compound(count, label) => {
             let name = intern(alloc, text, label, atoms)?;
             gather(making, name, count)?;
         }
+        Step::List(count) => link(making, start_atom(LIST_CELL, atoms), count)?,
     }
     Ok(())
+}
+
+/// The most cells that room is made for before any is made.
+const MOST_ROOM: usize = 1024;
+
+/// How many terms room is made for that are not among the cells yet.
+const USUAL_MADE: usize = 8;
+
+/// Nothing made yet, with room for the cells of so many steps: each makes one, but for lists.
+fn empty(alloc: Global, steps: usize) -> Result<Making, NoMemory>
+    ensures cells { IfOk result (λ making. making.cells.items ≡ []) }
+    ensures made { IfOk result (λ making. making.made.items ≡ []) }
+    ensures variables { IfOk result (λ making. making.variables ≡ no_numbers) }
+{
+    let mut making = Making {
+        cells: Cells::new(alloc),
+        made: Vec::new(alloc),
+        variables: Variables::new(alloc),
+    };
+    making.cells.reserve(steps.min(MOST_ROOM))?;
+    making.made.reserve(USUAL_MADE)?;
+    Ok(making)
 }
 
 /// The cells of the term that these steps make.
@@ -146,11 +196,7 @@ pub fn build(
         (AddsOnly (λ name. writes_any name (trees_of text.now steps.now)) atoms.old atoms.new) }
     ensures grows { Grows atoms.old atoms.new }
 {
-    let mut making = Making {
-        cells: Cells::new(alloc),
-        made: Vec::new(alloc),
-        variables: Variables::new(alloc),
-    };
+    let mut making = empty(alloc, steps.len())?;
     for step in steps {
         take_step(alloc, text, *step, atoms, &mut making)?;
     }

@@ -10,7 +10,7 @@ use crate::fault::ReadCause;
 use crate::steps::Label;
 use crate::stop::Stop;
 use crate::table::Op;
-use crate::words::Word;
+use crate::words::{Word, written};
 use std::marker::Model;
 use tp_lex::TokenKind;
 
@@ -166,7 +166,7 @@ fn label(word: Word) -> Label
 {
     match word.token.kind {
         TokenKind::Comma => Label::Comma,
-        _ => Label::Written(word.token),
+        _ => written(word),
     }
 }
 

@@ -53,9 +53,7 @@ pub fn link(steps: &mut Vec<Step>, count: usize, source: &Source<'_>) -> Result<
         OnOk result (trees_of text steps.new.items ≡ linked count (trees_of text steps.old.items)) }
     ensures memory { IfErr result (λ stop. stop ≡ Stop.NoMemory) }
 {
-    'links: for _ in 0..count {
-        steps.push(Step::Compound(Label::ListCell, 2))?;
-    }
+    steps.push(Step::List(count))?;
     Ok(())
 }
 

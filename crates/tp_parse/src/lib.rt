@@ -2,6 +2,7 @@
 #![tactic(auto)]
 
 mod build;
+mod class;
 mod cursor;
 mod fault;
 pub mod laws;

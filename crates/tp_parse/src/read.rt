@@ -15,8 +15,8 @@ use crate::words::{Extent, Source, take_words};
 use std::alloc::Global;
 use tp_terms::{Atoms, Cells, Names, Ref};
 
-/// A term that was read (ISO/IEC 13211-1, clause 6.2). Its variables are numbered from 0 in order of
-/// first occurrence, each `_` having a number of its own.
+/// A term that was read (ISO/IEC 13211-1, clause 6.2). Its variables are numbered from 0 in order
+/// of first occurrence, each `_` having a number of its own.
 #[derive(Drop)]
 pub struct ReadTerm {
     /// The cells of the term.
@@ -65,7 +65,7 @@ pub fn read_clause(
             cause: ReadCause::Unfinished,
         }),
         Some(true) => {
-            let term = read_words(&source, &words, Extent::Clause, atoms)?;
+            let term = read_words(&source, words, Extent::Clause, atoms)?;
             Ok(Some(term))
         }
     }
@@ -89,5 +89,5 @@ pub fn read_goal(
 {
     let source = Source { alloc, text, ops };
     let words = take_words(&source, 0, Extent::Whole)?;
-    read_words(&source, &words, Extent::Whole, atoms)
+    read_words(&source, words, Extent::Whole, atoms)
 }

@@ -18,7 +18,7 @@ use crate::progress::Progress;
 use crate::steps::{Label, Step};
 use crate::stop::{Follows, Stop};
 use crate::table::{Op, left_bound, right_bound};
-use crate::words::{Source, Word};
+use crate::words::{Source, Word, written};
 use tp_lex::{TokenKind, integer_value};
 
 /// The largest priority of a term.
@@ -89,7 +89,7 @@ fn read_atom(source: &Source<'_>, at: &mut Progress<'_>, word: Word) -> Result<u
     ensures going { IsUnderway source.now at.new }
     ensures shorter { OnOk result (length at.new.cursor ≤ length at.old.cursor) }
 {
-    at.steps.push(Step::Atom(Label::Written(word.token)))?;
+    at.steps.push(Step::Atom(written(word)))?;
     Ok(0)
 }
 
@@ -261,7 +261,7 @@ fn read_braced(source: &Source<'_>, at: &mut Progress<'_>, levels: u16) -> Resul
     }
     read(source, at, MOST, levels)?;
     at.cursor.pass_closing(TokenKind::CloseCurly)?;
-    at.steps.push(Step::Compound(Label::Braces, 1))?;
+    at.steps.push(Step::Compound(1, Label::Braces))?;
     Ok(0)
 }
 
@@ -419,8 +419,7 @@ fn read_operand(
     ensures shorter { OnOk result (length at.new.cursor ≤ length at.old.cursor) }
 {
     read(source, at, right_bound(op), levels)?;
-    at.steps
-        .push(Step::Compound(Label::Written(word.token), 1))?;
+    at.steps.push(Step::Compound(1, written(word)))?;
     Ok(op.0)
 }
 
@@ -472,8 +471,7 @@ fn read_compound(
 {
     at.cursor.pass();
     let count = read_args(source, at, levels)?;
-    at.steps
-        .push(Step::Compound(Label::Written(word.token), count))?;
+    at.steps.push(Step::Compound(count, written(word)))?;
     Ok(0)
 }
 
@@ -526,7 +524,7 @@ fn read_infix_part(
     };
     at.cursor.pass();
     read(source, at, right_bound(op), levels)?;
-    at.steps.push(Step::Compound(label, 2))?;
+    at.steps.push(Step::Compound(2, label))?;
     Ok(Some(op.0))
 }
 

@@ -6,7 +6,7 @@ ghost use Rattle.tp_parse.specs.Table.{add_op, changed, empty_table, entry_of, i
 ghost use Rattle.tp_parse.specs.Ops.{TellsAdd, entries_of, found_in, table_of};
 ghost use Rattle.tp_parse.specs.Start.{with_operators};
 
-use indexmap::IndexMap;
+use crate::class::Class;
 use std::alloc::{AllocError, AllocFailed, Global};
 use std::marker::Model;
 use tp_terms::NoMemory;
@@ -122,18 +122,18 @@ const START_OPERATORS: [(u16, OpType, &str); 40] = [
 /// operator.
 #[derive(Drop)]
 pub struct Ops {
-    prefixes: IndexMap<String, Option<Op>>,
-    infixes: IndexMap<String, Option<Op>>,
+    prefixes: Class,
+    infixes: Class,
 }
 
 impl Model for Ops {
-    ghost use Rattle.tp_parse.specs.Ops.{Entries, entries_of};
+    ghost use Rattle.tp_parse.specs.Ops.{Entries};
 
     ghost Value = { Entries };
 
     ghost view = { λ o. record {
-      prefixes = entries_of o.prefixes.entries;
-      infixes = entries_of o.infixes.entries;
+      prefixes = o.prefixes;
+      infixes = o.infixes;
     } };
 }
 
@@ -154,8 +154,8 @@ impl Ops {
         ensures { table_of result ≡ empty_table }
     {
         Ops {
-            prefixes: IndexMap::new(alloc),
-            infixes: IndexMap::new(alloc),
+            prefixes: Class::new(alloc),
+            infixes: Class::new(alloc),
         }
     }
 
@@ -189,14 +189,14 @@ impl Ops {
     pub fn prefix(&self, name: &str) -> Option<Op>
         ensures { result ≡ (table_of self.now).prefixes (chars name.now) }
     {
-        entry(&self.prefixes, name)
+        self.prefixes.find(name)
     }
 
     /// The infix operator of a name, if it is one. Takes no memory.
     pub fn infix(&self, name: &str) -> Option<Op>
         ensures { result ≡ (table_of self.now).infixes (chars name.now) }
     {
-        entry(&self.infixes, name)
+        self.infixes.find(name)
     }
 
     /// Sets the entry of a name in the type's class; none for priority 0.
@@ -211,9 +211,9 @@ impl Ops {
             Some((priority, kind))
         };
         if kind.is_prefix() {
-            set_entry(&mut self.prefixes, name, entry)
+            self.prefixes.set(name, entry)
         } else {
-            set_entry(&mut self.infixes, name, entry)
+            self.infixes.set(name, entry)
         }
     }
 }
@@ -263,30 +263,4 @@ fn is_kept_name(name: &str) -> bool
         "," | "|" | "[]" | "{}" => true,
         _ => false,
     }
-}
-
-/// The entry of a name.
-fn entry(entries: &IndexMap<String, Option<Op>>, name: &str) -> Option<Op>
-    ensures { result ≡ found_in (entries_of entries.now.entries) (chars name.now) }
-{
-    match entries.get(name) {
-        Some(found) => *found,
-        None => None,
-    }
-}
-
-/// Changes the entry of a name.
-fn set_entry(
-    entries: &mut IndexMap<String, Option<Op>>,
-    name: &str,
-    entry: Option<Op>,
-) -> Result<(), NoMemory>
-    ensures ok { OnOk result (found_in (entries_of entries.new.entries)
-        ≡ changed (chars name.now) entry (found_in (entries_of entries.old.entries))) }
-    ensures err { OnErr result
-        (entries_of entries.new.entries ≡ entries_of entries.old.entries) }
-{
-    let owned = String::from_str(*entries.allocator(), name)?;
-    entries.insert(owned, entry)?;
-    Ok(())
 }

@@ -1,6 +1,6 @@
 //! Whole clauses and goals, from their words.
 
-ghost use Rattle.std.specs.Prelude.{◌≡◌, ℕ, List, [], ◌<◌, length, Err, IfErr, IfOk, OnOk};
+ghost use Rattle.std.specs.Prelude.{◌≡◌, ℕ, List, [], ◌<◌, length, Err, IfErr, IfOk, OnErr, OnOk};
 ghost use Rattle.tp_lex.specs.Tokens.{is_end};
 ghost use Rattle.tp_terms.specs.Names.{Grows};
 ghost use Rattle.tp_parse.specs.NewNames.{AddsOnly, mentions};
@@ -22,7 +22,7 @@ use crate::steps::Step;
 use crate::stop::Stop;
 use crate::words::{Extent, Source, Word};
 use tp_lex::TokenKind;
-use tp_terms::Atoms;
+use tp_terms::{Atoms, NoMemory};
 
 /// The most levels of depth of a term.
 const MOST_LEVELS: u16 = 1000;
@@ -84,6 +84,21 @@ fn next_byte(cursor: &Cursor<'_>, end: usize) -> usize
     }
 }
 
+/// The most steps that room is made for before any is taken.
+const MOST_ROOM: usize = 1024;
+
+/// Room for the steps of so many words, of which most terms have as many or fewer.
+fn room_for(source: &Source<'_>, words: usize) -> Result<Vec<Step>, NoMemory>
+    ensures none { IfOk result (λ steps. steps.items ≡ []) }
+    ensures some { OnErr result (0 < words) }
+{
+    let mut steps = Vec::new(source.alloc);
+    if words > 0 {
+        steps.reserve(words.min(MOST_ROOM))?;
+    }
+    Ok(steps)
+}
+
 /// The steps of the term that all words are.
 fn steps_of(source: &Source<'_>, words: &[Word], extent: Extent) -> Result<Vec<Step>, ReadFault>
     requires { AreKnown (ops_of source.now) source.now.text.now words.now }
@@ -94,7 +109,7 @@ fn steps_of(source: &Source<'_>, words: &[Word], extent: Extent) -> Result<Vec<S
 {
     let mut at = Progress {
         cursor: Cursor::new(words),
-        steps: Vec::new(source.alloc),
+        steps: room_for(source, words.len())?,
     };
     match read_all(source, &mut at, extent) {
         Ok(()) => Ok(at.steps),
@@ -142,22 +157,32 @@ pub fn is_ended(words: &[Word]) -> Option<bool>
     }
 }
 
-/// The term that all words are.
+/// The byte at which the first word begins, and the byte after the last.
+fn span(words: &[Word], end: usize) -> (usize, usize)
+    ensures from { (text : List ℕ) → result.0 ≡ byte_at end (ahead text words.now) }
+    ensures to { (text : List ℕ) → result.1 ≡ to_of end (ahead text words.now) }
+{
+    (first_byte(words, end), last_byte(words, end))
+}
+
+/// The term that all words are. The words are let go before its cells are made.
 pub fn read_words(
     source: &Source<'_>,
-    words: &[Word],
+    words: Vec<Word>,
     extent: Extent,
     atoms: &mut Atoms,
 ) -> Result<ReadTerm, ReadFault>
-    requires { AreKnown (ops_of source.now) source.now.text.now words.now }
-    ensures read { let text = source.now.text.now in let ts = ahead text words.now in
+    requires { AreKnown (ops_of source.now) source.now.text.now words.items }
+    ensures read { let text = source.now.text.now in let ts = ahead text words.items in
         TellsWhole atoms.new text ts result (reading_of extent (ops_of source.now) ts) }
     ensures grows { Grows atoms.old atoms.new }
     ensures names { IfOk result (λ term.
         AddsOnly (λ name. mentions name (term_read atoms.new term)) atoms.old atoms.new) }
-    ensures memory { result ≡ Err ReadFault.NoMemory → 0 < length words.now }
+    ensures memory { result ≡ Err ReadFault.NoMemory → 0 < length words.items }
 {
-    let steps = steps_of(source, words, extent)?;
+    let (from, to) = span(&words, source.text.len());
+    let steps = steps_of(source, &words, extent)?;
+    drop(words);
     let (cells, root, variables) = build(source.alloc, source.text, &steps, atoms)?;
     let vars = variables.count();
     let named = variables.into_names(source.alloc)?;
@@ -166,7 +191,7 @@ pub fn read_words(
         root,
         named,
         vars,
-        from: first_byte(words, source.text.len()),
-        to: last_byte(words, source.text.len()),
+        from,
+        to,
     })
 }

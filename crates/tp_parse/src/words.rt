@@ -1,15 +1,17 @@
 //! The tokens of a clause or a goal, with the operators of their names.
 
-ghost use Rattle.std.specs.Prelude.{◌≡◌, ℕ, ◌&&◌, chars, IfOk, IfSome, IsTrue, Option, Some, None, Err, OnSome, ◌<◌, length};
+ghost use Rattle.std.specs.Prelude.{◌≡◌, ℕ, ◌&&◌, chars, IfOk, IfSome, IsTrue, Option, Some, None, Err, OnOk, OnSome, [], ◌∷◌, ◌++◌, ◌<◌, length};
 ghost use Rattle.std.specs.Str.{IsCharBoundary};
 ghost use Rattle.tp_lex.specs.Form.{has_name};
 ghost use Rattle.tp_lex.specs.Next.{IsTokenOf, StandsBehind, token_name};
 ghost use Rattle.tp_lex.specs.Tokens.{Reach, stands_directly, stops_at, tokens_from};
 ghost use Rattle.tp_parse.specs.Progress.{IsWordOf, ops_of};
+ghost use Rattle.tp_parse.specs.Steps.{written};
 ghost use Rattle.tp_parse.specs.Texts.{HasToken};
 ghost use Rattle.tp_parse.specs.Words.{AreKnown, TellsNext, TellsWords, infix_by, prefix_by, reach_of};
 
 use crate::fault::ReadFault;
+use crate::steps::Label;
 use crate::table::{Op, Ops};
 use std::alloc::Global;
 use tp_lex::{Token, TokenKind, next_token, token_text};
@@ -54,6 +56,14 @@ impl Extent {
             Extent::Whole => false,
         }
     }
+}
+
+/// The name of a word, as a label.
+pub fn written(word: Word) -> Label
+    ensures { result ≡ written word.token }
+{
+    let Token { kind, from, to } = word.token;
+    Label::Written { kind, from, to }
 }
 
 /// The name of a token that is written without quotes.
@@ -140,6 +150,20 @@ fn next_word(source: &Source<'_>, at: usize, end: Option<usize>) -> Result<Optio
     }
 }
 
+/// How many words room is made for at the first: as many as most clauses have.
+const USUAL_WORDS: usize = 24;
+
+/// Adds a word. The first one makes room for those of most clauses.
+fn add_word(words: &mut Vec<Word>, word: Word) -> Result<(), NoMemory>
+    ensures { OnOk result (words.new.items ≡ words.old.items ++ word ∷ []) }
+{
+    if words.is_empty() {
+        words.reserve(USUAL_WORDS)?;
+    }
+    words.push(word)?;
+    Ok(())
+}
+
 /// The words from a byte on.
 ///
 /// # Errors
@@ -159,7 +183,7 @@ pub fn take_words(source: &Source<'_>, at: usize, extent: Extent) -> Result<Vec<
         let Some(word) = next_word(source, from, end)? else {
             return Ok(words);
         };
-        words.push(word)?;
+        add_word(&mut words, word)?;
         if extent.stops_at(word.token.kind) {
             return Ok(words);
         }

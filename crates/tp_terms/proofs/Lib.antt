@@ -1,4 +1,5 @@
 pub mod ShownLemmas
+mod KeptLemmas
 pub mod TextLemmas
 pub mod NameLemmas
 pub mod StartLemmas

@@ -11,9 +11,9 @@ use Rattle.tp_terms.specs.declared.symbols.TheConstants.{START_NAMES}
 use Rattle.tp_terms.specs.Term.{Name, names_eq}
 use Rattle.tp_terms.specs.Shown.{name_at}
 use Rattle.tp_terms.specs.StartNames.{start_names}
-use Rattle.tp_terms.specs.Names.{names_of, with_names, AreDistinct, AreTexts, IsTable}
+use Rattle.tp_terms.specs.Names.{names_of, with_name, with_names, AreDistinct, AreTexts, IsTable}
 use Rattle.tp_terms.proofs.TextLemmas.{names_eq-same}
-use Rattle.tp_terms.proofs.NameLemmas.{list_any-at, name_at-slice_get, slice_get-append, names_eq-place}
+use Rattle.tp_terms.proofs.NameLemmas.{list_any-at, name_at-slice_get, slice_get-append, names_eq-place, with_name-present}
 
 pub length-start_names : length start_names ≡ 103
 unfolding start_names
@@ -76,6 +76,10 @@ start-place names t at name e =
     ∙ slice_get-append (take (length start_names) names) (drop (length start_names) names) at within
     ∙ ap (λ l. slice_get l at) t.begins
     ∙ e
+
+-- such a name is added to no table
+pub start-present : (names : List Name) → IsTable names → (at : ℕ) (name : Name) → slice_get start_names at ≡ Some name → names ≡ with_name names name
+start-present names t at name e = sym (with_name-present names at name (start-place names t at name e))
 
 pub start-name_at : (names : List Name) → IsTable names → (at : ℕ) (name : Name) → slice_get start_names at ≡ Some name → name_at names at ≡ name
 start-name_at names t at name e = name_at-slice_get names at name (start-place names t at name e)

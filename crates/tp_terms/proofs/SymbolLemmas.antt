@@ -1,7 +1,7 @@
 -- Names of the start by the constants of `symbols`. With `start-name_at` and `names_eq-start` they
 -- say what an atom of any table is.
 use Rattle.std.proofs.Common.{◌≡◌, Some, slice_get, refl, codes}
-use Rattle.tp_terms.specs.declared.symbols.TheConstants.{LIST_CELL, EMPTY_LIST, TRUE, FAIL, CONJUNCTION, DISJUNCTION, IF_THEN, CALL, CALLABLE, NECK, GRAMMAR, QUERY, SLASH, OP, XFX, XFY, YFX, FY, FX, ERROR, INSTANTIATION_ERROR, TYPE_ERROR, EXISTENCE_ERROR, PROCEDURE, MAIN}
+use Rattle.tp_terms.specs.declared.symbols.TheConstants.{LIST_CELL, EMPTY_LIST, BRACES, TRUE, FAIL, CONJUNCTION, DISJUNCTION, IF_THEN, CALL, CALLABLE, NECK, GRAMMAR, QUERY, SLASH, OP, XFX, XFY, YFX, FY, FX, ERROR, INSTANTIATION_ERROR, TYPE_ERROR, EXISTENCE_ERROR, PROCEDURE, MAIN}
 use Rattle.tp_terms.specs.StartNames.{start_names}
 
 pub start-list_cell : slice_get start_names LIST_CELL.at ≡ Some (codes ".")
@@ -11,6 +11,10 @@ start-list_cell = refl
 pub start-empty_list : slice_get start_names EMPTY_LIST.at ≡ Some (codes "[]")
 unfolding start_names
 start-empty_list = refl
+
+pub start-braces : slice_get start_names BRACES.at ≡ Some (codes "{}")
+unfolding start_names
+start-braces = refl
 
 pub start-true : slice_get start_names TRUE.at ≡ Some (codes "true")
 unfolding start_names

@@ -1,6 +1,7 @@
 pub mod Term
 pub mod Code
 pub mod Shown
+pub mod Kept
 pub mod Contents
 pub mod StartNames
 pub mod Names

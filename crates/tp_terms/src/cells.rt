@@ -2,6 +2,7 @@
 
 ghost use Rattle.std.specs.Prelude.{◌≡◌, ℕ, ◌+◌, ◌-◌, ◌<◌, ◌≤◌, ◌↔◌, IsTrue, IsOk, List, [], ◌∷◌, ◌++◌, length, slice_get, take, Some, OnOk, OnErr, IfOk};
 ghost use Rattle.tp_terms.specs.Term.{Name};
+ghost use Rattle.tp_terms.specs.Kept.{cell_of};
 ghost use Rattle.tp_terms.specs.Shown.{StandsBefore, AreBuilt, shows, shown_from};
 
 use crate::NoMemory;
@@ -43,28 +44,73 @@ pub enum Cell {
     },
 }
 
+/// A cell as it is kept: the number of arguments lies beside the tag, which makes it 24 bytes.
+#[derive(Clone, Copy, Debug, PartialEq, Eq)]
+enum Kept {
+    /// A variable.
+    Var(u64),
+    /// An integer.
+    Int(i64),
+    /// An atom.
+    Atom(AtomId),
+    /// A compound term.
+    Comp {
+        /// How many arguments.
+        count: u8,
+        /// The place of the name.
+        name: AtomId,
+        /// The first argument.
+        first: Ref,
+    },
+}
+
+/// A cell as it is kept.
+fn keep(cell: Cell) -> Kept
+    ensures { cell_of result ≡ cell }
+{
+    match cell {
+        Cell::Var(number) => Kept::Var(number),
+        Cell::Int(value) => Kept::Int(value),
+        Cell::Atom(name) => Kept::Atom(name),
+        Cell::Comp { name, first, count } => Kept::Comp { count, name, first },
+    }
+}
+
+/// The cell that is kept.
+fn given(kept: Kept) -> Cell
+    ensures { result ≡ cell_of kept }
+{
+    match kept {
+        Kept::Var(number) => Cell::Var(number),
+        Kept::Int(value) => Cell::Int(value),
+        Kept::Atom(name) => Cell::Atom(name),
+        Kept::Comp { count, name, first } => Cell::Comp { name, first, count },
+    }
+}
+
 /// Terms in adjacent cells, each of which shows one term. The arguments of a compound stand before
 /// it.
 #[derive(Drop)]
 pub struct Cells {
-    cells: Vec<Cell>,
+    cells: Vec<Kept>,
 }
 
 impl Model for Cells {
-    ghost use Rattle.std.specs.Prelude.{◌-◌, vec_len};
+    ghost use Rattle.std.specs.Prelude.{◌-◌, map, vec_len};
     ghost use Rattle.std.specs.Vec.{vec_capacity};
     ghost use Rattle.tp_terms.specs.Contents.{Contents};
+    ghost use Rattle.tp_terms.specs.Kept.{cell_of};
 
     ghost Value = { Contents };
 
     ghost use Rattle.tp_terms.specs.Shown.{AreBuilt};
 
     ghost view = { λ c. record {
-      items = c.cells.items;
+      items = map cell_of c.cells.items;
       room = vec_capacity c.cells - vec_len c.cells;
     } };
 
-    ghost invariant = { λ c. AreBuilt c.cells.items };
+    ghost invariant = { λ c. AreBuilt (map cell_of c.cells.items) };
 }
 
 impl Cells {
@@ -97,7 +143,7 @@ impl Cells {
         ensures room { self.old.room ≤ self.new.room + 1 }
     {
         let at = self.cells.len();
-        self.cells.push(cell)?;
+        self.cells.push(keep(cell))?;
         Ok(Ref { at })
     }
 
@@ -109,7 +155,7 @@ impl Cells {
         ensures shown { (names : List Name) →
             shows names self.now.items at.at ≡ shown_from names self.now.items result }
     {
-        self.cells[at.at]
+        given(self.cells[at.at])
     }
 
     /// The number of cells. Takes no memory.

@@ -1,6 +1,7 @@
 -- Cells that show trees: what stays when cells and names are added, and what each step makes.
-use Rattle.std.proofs.Common.{◌≡◌, ℕ, zero, suc, ◌+◌, ◌-◌, ◌<◌, ◌≤◌, List, [], ◌∷◌, ◌++◌, length, get_or, take, drop, slice_get, Some, refl, sym, ap, subst, ◌∙◌, arith, length-append, append_assoc, append-nil}
+use Rattle.std.proofs.Common.{◌≡◌, ℕ, zero, suc, ◌+◌, ◌-◌, ◌<◌, ◌≤◌, List, [], ◌∷◌, ◌++◌, length, get_or, take, drop, slice_get, codes, Some, refl, sym, ap, subst, ◌∙◌, arith, length-append, append_assoc, append-nil}
 use Rattle.std.proofs.lemmas.List.{take-append-drop, length-take, length-drop, take_more}
+use Rattle.std.proofs.lemmas.Option.{slice_get_within}
 use Rattle.tp_terms.specs.declared.cells.AtomId.{AtomId}
 use Rattle.tp_terms.specs.declared.cells.Cell.{Cell}
 use Rattle.tp_terms.specs.declared.cells.Cell.TheVariants as cell
@@ -9,9 +10,9 @@ use Rattle.tp_terms.specs.Names.{Grows}
 use Rattle.tp_terms.specs.Shown.{shows, args_at, shown_from, StandsBefore, IsNamed, AreNamed}
 use Rattle.tp_terms.proofs.ShownLemmas.{shows-append, shows-push, shown_from-append, shown_from-names, AreNamed-longer, AreNamed-append, AreNamed-push, AreNamed-take}
 use Rattle.tp_terms.proofs.NameLemmas.{name_at-slice_get, Grows-length}
-use Rattle.tp_parse.specs.Tree.{Tree, Compound, Trees, none, first_of}
+use Rattle.tp_parse.specs.Tree.{Tree, Compound, Trees, none, first_of, list_cell}
 use Rattle.tp_parse.specs.Numbers.{Numbers, no_numbers, numbered, all_numbered}
-use Rattle.tp_parse.specs.Steps.{act, run, trees_of, row, count, IsReady, AreReady}
+use Rattle.tp_parse.specs.Steps.{act, run, trees_of, row, linked, count, IsReady, AreReady}
 use Rattle.tp_parse.specs.declared.steps.Step.{Step}
 use Rattle.tp_parse.specs.Making.{shown_row, AllBefore, upright, IsMade, IsBuilt, IsGathered}
 use Rattle.tp_parse.specs.declared.build.Making.{Making}
@@ -174,6 +175,18 @@ args-added : (names : List Name) (old cs : List Cell) → AllBefore (length old)
 args-added names old cs h =
     ap (λ l. args_at names (l ++ cs) (length l) (length cs)) (sym (append-nil old)) ∙ args-behind names old [] cs h
 
+-- what stands where the last terms are gathered, and how many are left
+pub gathered-stands : (old new : Making) (atom : AtomId) (n : ℕ) → IsGathered atom n old new → 0 < n → n ≤ length old.made.items → AllBefore (length old.cells.items) old.made.items → AllBefore (length new.cells.items) new.made.items
+gathered-stands old new atom n g some enough h =
+    let long : length new.cells.items ≡ length old.cells.items + n = omega (arith, ap length g.cells, length-append old.cells.items (drop (length old.made.items - n) old.made.items), length-drop (length old.made.items - n) old.made.items) in
+    subst (AllBefore (length new.cells.items)) (sym g.made)
+    (all-append (take (length old.made.items - n) old.made.items) (cell.Comp atom (record { at = length old.cells.items }) n ∷ []) (length new.cells.items)
+    (all-more (take (length old.made.items - n) old.made.items) (length old.cells.items) (length new.cells.items) (omega arith) (all-take (length old.made.items - n) old.made.items (length old.cells.items) h)) ((some, omega arith), tt))
+
+pub gathered-left : (old new : Making) (atom : AtomId) (n : ℕ) → IsGathered atom n old new → n ≤ length old.made.items → length new.made.items + n ≡ suc (length old.made.items)
+gathered-left old new atom n g enough =
+    omega (arith, ap length g.made, length-append (take (length old.made.items - n) old.made.items) (cell.Comp atom (record { at = length old.cells.items }) n ∷ []), length-take (length old.made.items - n) old.made.items)
+
 -- a compound of the last terms
 module _ (names : List Name) (old new : Making) (made : List Tree) (atom : AtomId) (name : Name) (n : ℕ) (m : IsMade names old made) (g : IsGathered atom n old new) (some : 0 < n) (enough : n ≤ length old.made.items) (there : slice_get names atom.at ≡ Some name) (within : atom.at < length names) where
   abbrev front : List Cell
@@ -248,11 +261,23 @@ module _ (names : List Name) (old new : Making) (made : List Tree) (atom : AtomI
       record {
         shown = gathered;
         counted = let a = ap length g.made in let b = length-append front (comp ∷ []) in let d = length-drop n made in let f = front-length in let k = m.counted in omega arith;
-        stands = subst (AllBefore (length new.cells.items)) (sym g.made) (all-append front (comp ∷ []) (length new.cells.items)
-            (all-more front (length old.cells.items) (length new.cells.items) (omega arith) (all-take (length old.made.items - n) old.made.items (length old.cells.items) m.stands)) ((some, omega arith), tt));
+        stands = gathered-stands old new atom n g some enough m.stands;
         named = subst (AreNamed (length names)) (sym g.cells) (AreNamed-append (length names) old.cells.items last m.named (named-drop (length names) (length old.made.items - n) old.made.items m.last_named));
         last_named = subst (AreNamed (length names)) (sym g.made) (AreNamed-push (length names) front comp (AreNamed-take (length names) (length old.made.items - n) old.made.items m.last_named) within);
       }
+
+-- one link more makes a compound of the last two trees
+link-last : (i : ℕ) (made : List Tree) → suc i < length made → linked (suc i) made ≡ Compound (codes ".") (row 2 (linked i made) none) ∷ drop 2 (linked i made)
+link-last i [] h = absurd (omega arith)
+link-last i (t ∷ []) h = absurd (omega arith)
+link-last zero (t ∷ u ∷ made) h = refl
+link-last (suc i) (t ∷ u ∷ made) h = link-last i (list_cell u t ∷ made) (omega arith)
+
+pub made-link : (names : List Name) (old new : Making) (made : List Tree) (atom : AtomId) (i k : ℕ) → slice_get names atom.at ≡ Some (codes ".") → IsMade names old (linked i made) → IsGathered atom 2 old new → 2 ≤ length old.made.items → k ≡ suc i → k < length made → IsMade names new (linked k made)
+made-link names old new made atom i k there m g enough is h =
+    subst (λ n. IsMade names new (linked n made)) (sym is)
+    (subst (IsMade names new) (sym (link-last i made (omega arith)))
+    (made-gather names old new (linked i made) atom (codes ".") 2 m g (omega arith) enough there (slice_get_within names atom.at (codes ".") there)))
 
 pair-same : (r : Term × Numbers) (t : Term) (s : Numbers) → r.0 ≡ t → r.1 ≡ s → r ≡ (t, s)
 pair-same r t s e f = ap (λ x. (x, r.1)) e ∙ ap (λ x. (t, x)) f

@@ -6,9 +6,9 @@ use Rattle.std.specs.List.{list_all, list_any}
 use Rattle.tp_terms.specs.Term.{Name, Term, names_eq}
 use Rattle.tp_terms.specs.Names.{with_name}
 use Rattle.tp_terms.proofs.TextLemmas.{names_eq-same}
-use Rattle.tp_parse.specs.Tree.{Tree, Trees, Variable, Integer, Atom, Compound, none, first_of}
+use Rattle.tp_parse.specs.Tree.{Tree, Trees, Variable, Integer, Atom, Compound, none, first_of, list_cell}
 use Rattle.tp_parse.specs.Numbers.{Numbers, no_numbers, numbered, all_numbered}
-use Rattle.tp_parse.specs.Steps.{act, row, label_name}
+use Rattle.tp_parse.specs.Steps.{act, row, linked, label_name}
 use Rattle.tp_parse.specs.NewNames.{mentions, mentions_in, writes, writes_in, writes_any, AddsOnly}
 use Rattle.tp_parse.specs.declared.steps.Label.{Label}
 use Rattle.tp_parse.specs.declared.steps.Step.{Step}
@@ -60,14 +60,22 @@ writes-row name zero made more h = grind arith
 writes-row name (suc n) [] more h = grind arith
 writes-row name (suc n) (t ∷ made) more h = writes-row name n made (first_of t more) (grind arith)
 
+-- the names of trees that become a list
+writes-linked : (name : Name) (n : ℕ) (made : List Tree) → writes_any name made ≡ true → writes_any name (linked n made) ≡ true
+writes-linked name zero made h = h
+writes-linked name (suc n) [] h = h
+writes-linked name (suc n) (t ∷ []) h = h
+writes-linked name (suc n) (t ∷ u ∷ made) h = writes-linked name n (list_cell u t ∷ made) (grind arith)
+
 -- no step loses a name
 pub writes-act : (text : List ℕ) (s : Step) (made : List Tree) (name : Name) → writes_any name made ≡ true → writes_any name (act text s made) ≡ true
 writes-act text (step.Variable token) made name h = h
 writes-act text (step.Integer value) made name h = h
 writes-act text (step.Atom label) made name h = ap (λ b. names_eq name (label_name text label) || b) h ∙ either-true _ true
-writes-act text (step.Compound label count) made name h =
+writes-act text (step.Compound count label) made name h =
     let k = writes-row name count made none (ap (λ b. b || false) h) in
     grind arith
+writes-act text (step.List count) made name h = writes-linked name count made h
 
 -- the names of a tree are those of its term
 mutual
@@ -94,10 +102,10 @@ names-atom text label made names new e =
     subst (AddsOnly (λ name. writes_any name (act text (step.Atom label) made)) names) (sym e)
     (AddsOnly-with_name (λ name. writes_any name (act text (step.Atom label) made)) names (label_name text label) (ap (λ b. b || writes_any (label_name text label) made) (names_eq-same (label_name text label))))
 
-pub names-compound : (text : List ℕ) (label : Label) (count : ℕ) (made : List Tree) (names new : List Name) → new ≡ with_name names (label_name text label) → AddsOnly (λ name. writes_any name (act text (step.Compound label count) made)) names new
+pub names-compound : (text : List ℕ) (label : Label) (count : ℕ) (made : List Tree) (names new : List Name) → new ≡ with_name names (label_name text label) → AddsOnly (λ name. writes_any name (act text (step.Compound count label) made)) names new
 names-compound text label count made names new e =
-    subst (AddsOnly (λ name. writes_any name (act text (step.Compound label count) made)) names) (sym e)
-    (AddsOnly-with_name (λ name. writes_any name (act text (step.Compound label count) made)) names (label_name text label)
+    subst (AddsOnly (λ name. writes_any name (act text (step.Compound count label) made)) names) (sym e)
+    (AddsOnly-with_name (λ name. writes_any name (act text (step.Compound count label) made)) names (label_name text label)
     (ap (λ b. (b || writes_in (label_name text label) (row count made none)) || writes_any (label_name text label) (drop count made)) (names_eq-same (label_name text label))))
 
 -- what was added for a tree was added for its term

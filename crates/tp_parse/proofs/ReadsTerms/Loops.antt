@@ -319,9 +319,9 @@ module _ (ops : Table) (inner : Inner) (text : List ℕ) (more : Tree → ℕ �
   pub part-some : (o : Label × Op) (left : List Word) → taken_of p q (infix_word (first_word ws)) ≡ Some o → left ≡ after_word ws → infix_part inner more p t q (ahead text ws) (infix_ahead ops (ahead text ws)) ≡ (inner (right_bound o.1) (ahead text left) >>= λ r. more (binary (label_name text o.0) t r.0) (o.1).0 r.2)
   part-some o left e l = part ∙ ap taken_part e ∙ ap (λ x. inner (right_bound o.1) x >>= λ r. more (binary (label_name text o.0) t r.0) (o.1).0 r.2) (sym (ap (ahead text) l ∙ ahead-after text ws))
 
-pub act-binary : (text : List ℕ) (name : Label) (t u : Tree) (made mid : List Tree) → mid ≡ u ∷ made → 0 < length made → act text (step.Compound name 2) mid ≡ binary (label_name text name) (top_of made) u ∷ under made
+pub act-binary : (text : List ℕ) (name : Label) (t u : Tree) (made mid : List Tree) → mid ≡ u ∷ made → 0 < length made → act text (step.Compound 2 name) mid ≡ binary (label_name text name) (top_of made) u ∷ under made
 act-binary text name t u [] mid e h = absurd (omega arith)
-act-binary text name t u (s ∷ made) mid e h = ap (act text (step.Compound name 2)) e
+act-binary text name t u (s ∷ made) mid e h = ap (act text (step.Compound 2 name)) e
 
 -- ---- prefix operators
 
@@ -375,29 +375,29 @@ operand-refused inner p f ts o h = ap (λ (b : Bool). if b then operand inner f 
 
 -- ---- steps on what was read
 
-pub compound-read : (inner : Inner) (text : List ℕ) (steps new : List Step) (start : List Tree) (name : Label) (n : ℕ) (ts us left : List Lexed) → new ≡ steps ++ step.Compound name n ∷ [] → us ≡ after_first ts → IsRow start (trees_of text steps) left n (args inner 255 us) → IsRead start (trees_of text new) left 0 (compound inner (label_name text name) ts)
+pub compound-read : (inner : Inner) (text : List ℕ) (steps new : List Step) (start : List Tree) (name : Label) (n : ℕ) (ts us left : List Lexed) → new ≡ steps ++ step.Compound n name ∷ [] → us ≡ after_first ts → IsRow start (trees_of text steps) left n (args inner 255 us) → IsRead start (trees_of text new) left 0 (compound inner (label_name text name) ts)
 compound-read inner text steps new start name n ts us left e l r = record {
   tree = Compound (label_name text name) r.trees;
   read = ap (λ x. args inner 255 x >>= λ r. Ok (Compound (label_name text name) r.0, 0, r.1)) (sym l) ∙ ap (λ x. x >>= λ r. Ok (Compound (label_name text name) r.0, 0, r.1)) r.read;
-  made = trees-more text steps new (step.Compound name n) e ∙ ap (act text (step.Compound name n)) r.made ∙ act-onto text name r.trees n start r.counted;
+  made = trees-more text steps new (step.Compound n name) e ∙ ap (act text (step.Compound n name)) r.made ∙ act-onto text name r.trees n start r.counted;
 }
 
-pub operand-read : (inner : Inner) (text : List ℕ) (steps new : List Step) (start : List Tree) (name : Label) (q : ℕ) (ts left : List Lexed) (o : Op) → new ≡ steps ++ step.Compound name 1 ∷ [] → IsRead start (trees_of text steps) left q (inner (right_bound o) ts) → IsRead start (trees_of text new) left o.0 (operand inner (label_name text name) ts o)
+pub operand-read : (inner : Inner) (text : List ℕ) (steps new : List Step) (start : List Tree) (name : Label) (q : ℕ) (ts left : List Lexed) (o : Op) → new ≡ steps ++ step.Compound 1 name ∷ [] → IsRead start (trees_of text steps) left q (inner (right_bound o) ts) → IsRead start (trees_of text new) left o.0 (operand inner (label_name text name) ts o)
 operand-read inner text steps new start name q ts left o e r = record {
   tree = unary (label_name text name) r.tree;
   read = ap (λ x. x >>= λ r. Ok (unary (label_name text name) r.0, o.0, r.2)) r.read;
-  made = trees-more text steps new (step.Compound name 1) e ∙ ap (act text (step.Compound name 1)) r.made;
+  made = trees-more text steps new (step.Compound 1 name) e ∙ ap (act text (step.Compound 1 name)) r.made;
 }
 
-pub part-read : (ops : Table) (inner : Inner) (text : List ℕ) (more : Tree → ℕ → List Lexed → Read Term) (p q r : ℕ) (made : List Tree) (ws passed : List Word) (left : List Lexed) (known : AreKnown ops text ws) (steps new : List Step) (o : Label × Op) → taken_of p q (infix_word (first_word ws)) ≡ Some o → passed ≡ after_word ws → new ≡ steps ++ step.Compound o.0 2 ∷ [] → 0 < length made →
+pub part-read : (ops : Table) (inner : Inner) (text : List ℕ) (more : Tree → ℕ → List Lexed → Read Term) (p q r : ℕ) (made : List Tree) (ws passed : List Word) (left : List Lexed) (known : AreKnown ops text ws) (steps new : List Step) (o : Label × Op) → taken_of p q (infix_word (first_word ws)) ≡ Some o → passed ≡ after_word ws → new ≡ steps ++ step.Compound 2 o.0 ∷ [] → 0 < length made →
     IsRead made (trees_of text steps) left r (inner (right_bound o.1) (ahead text passed)) → IsPart more (o.1).0 (under made) (trees_of text new) left (infix_part inner more p (top_of made) q (ahead text ws) (infix_ahead ops (ahead text ws)))
 part-read ops inner text more p q r made ws passed left known steps new o e l n h a = record {
   tree = binary (label_name text o.0) (top_of made) a.tree;
   read = part-some ops inner text more p q (top_of made) ws known o passed e l ∙ ap (λ x. x >>= λ r. more (binary (label_name text o.0) (top_of made) r.0) (o.1).0 r.2) a.read;
-  made = trees-more text steps new (step.Compound o.0 2) n ∙ act-binary text o.0 (top_of made) a.tree made (trees_of text steps) a.made h;
+  made = trees-more text steps new (step.Compound 2 o.0) n ∙ act-binary text o.0 (top_of made) a.tree made (trees_of text steps) a.made h;
 }
 
-pub braced-read : (inner : Inner) (text : List ℕ) (steps new : List Step) (start : List Tree) (q : ℕ) (ws : List Word) (us left : List Lexed) → closes_by kind.CloseCurly (kind_of (first_word ws)) ≡ false → new ≡ steps ++ step.Compound label.Braces 1 ∷ [] → IsRead start (trees_of text steps) us q (inner 1200 (ahead text ws)) → behind kind.CloseCurly us ≡ Ok left → IsRead start (trees_of text new) left 0 (braced inner (ahead text ws))
+pub braced-read : (inner : Inner) (text : List ℕ) (steps new : List Step) (start : List Tree) (q : ℕ) (ws : List Word) (us left : List Lexed) → closes_by kind.CloseCurly (kind_of (first_word ws)) ≡ false → new ≡ steps ++ step.Compound 1 label.Braces ∷ [] → IsRead start (trees_of text steps) us q (inner 1200 (ahead text ws)) → behind kind.CloseCurly us ≡ Ok left → IsRead start (trees_of text new) left 0 (braced inner (ahead text ws))
 unfolding braced
 braced-read inner text steps new start q ws us left c e r b = record {
   tree = unary (codes "{}") r.tree;
@@ -406,7 +406,7 @@ braced-read inner text steps new start q ws us left c e r b = record {
       ∙ ap (λ (t : Bool). if t then Ok (Atom (codes "{}"), 0, after_first (ahead text ws)) else (inner 1200 (ahead text ws) >>= λ r. behind kind.CloseCurly r.2 >>= λ us. Ok (unary (codes "{}") r.0, 0, us))) c
       ∙ ap (λ x. x >>= λ r. behind kind.CloseCurly r.2 >>= λ us. Ok (unary (codes "{}") r.0, 0, us)) r.read
       ∙ ap (λ x. x >>= λ us. Ok (unary (codes "{}") r.tree, 0, us)) b;
-  made = trees-more text steps new (step.Compound label.Braces 1) e ∙ ap (act text (step.Compound label.Braces 1)) r.made;
+  made = trees-more text steps new (step.Compound 1 label.Braces) e ∙ ap (act text (step.Compound 1 label.Braces)) r.made;
 }
 
 pub named-kind : (k : TokenKind) → (k ≡ kind.Name) ⊎ (k ≡ kind.Quoted) → IsTrue (is_named k)

@@ -1,4 +1,4 @@
--- Steps: one more step, arguments on the trees before, and lists by their links.
+-- Steps: one more step, arguments on the trees before, and lists.
 use Rattle.std.proofs.Common.{◌≡◌, ℕ, suc, ◌+◌, ◌<◌, List, [], ◌∷◌, ◌++◌, length, get_or, drop, take, ℤ, pos, refl, sym, ap, subst, ◌∙◌, arith}
 use Rattle.std.proofs.lemmas.List.{take_more}
 use Rattle.tp_parse.specs.Tree.{Tree, Integer, Compound, Trees, none, first_of, list_cell, integers, empty_list}
@@ -22,33 +22,6 @@ trees-more text steps new s e = ap (trees_of text) e ∙ run-push text [] steps 
 
 pub ready-more : (text : List ℕ) (steps new : List Step) (s : Step) → new ≡ steps ++ s ∷ [] → AreReady text [] steps → IsReady text (length (trees_of text steps)) s → AreReady text [] new
 ready-more text steps new s e h k = subst (AreReady text []) (sym e) (ready-push text [] steps s h k)
-
--- ---- links
-
-link-step : (text : List ℕ) (n : ℕ) (made : List Tree) → suc n < length made → linked (suc n) made ≡ linked n (act text (step.Compound label.ListCell 2) made)
-link-step text n [] h = absurd (omega arith)
-link-step text n (t ∷ []) h = absurd (omega arith)
-link-step text n (t ∷ u ∷ made) h = refl
-
-act-link-length : (text : List ℕ) (made : List Tree) → 1 < length made → suc (length (act text (step.Compound label.ListCell 2) made)) ≡ length made
-act-link-length text [] h = absurd (omega arith)
-act-link-length text (t ∷ []) h = absurd (omega arith)
-act-link-length text (t ∷ u ∷ made) h = refl
-
--- one more link, where k are left
-pub link-more : (text : List ℕ) (steps new : List Step) (k m : ℕ) (whole : List Tree) → new ≡ steps ++ step.Compound label.ListCell 2 ∷ [] → k ≡ suc m → k < length (trees_of text steps) → linked k (trees_of text steps) ≡ whole → linked m (trees_of text new) ≡ whole
-link-more text steps new k m whole e is h same =
-    ap (linked m) (trees-more text steps new _ e) ∙ sym (link-step text m (trees_of text steps) (omega arith)) ∙ ap (λ n. linked n (trees_of text steps)) (sym is) ∙ same
-
-pub link-length : (text : List ℕ) (steps new : List Step) (k m : ℕ) → new ≡ steps ++ step.Compound label.ListCell 2 ∷ [] → k ≡ suc m → k < length (trees_of text steps) → m < length (trees_of text new)
-link-length text steps new k m e is h =
-    let one : 1 < length (trees_of text steps) = omega arith in
-    let less = act-link-length text (trees_of text steps) one in
-    let same = ap length (trees-more text steps new _ e) in
-    omega arith
-
-pub link-ready : (text : List ℕ) (steps new : List Step) (k : ℕ) → new ≡ steps ++ step.Compound label.ListCell 2 ∷ [] → 0 < k → k < length (trees_of text steps) → AreReady text [] steps → AreReady text [] new
-link-ready text steps new k e s h r = ready-more text steps new _ e r (tt, omega arith, omega arith)
 
 -- ---- arguments
 
@@ -81,7 +54,7 @@ drop-onto none n m made e = ap (λ k. drop k made) (let f : n ≡ m = omega arit
 drop-onto (first_of t ts) n m made e = drop-onto ts n (suc m) (t ∷ made) (omega arith)
 
 -- a compound of the arguments that were made last
-pub act-onto : (text : List ℕ) (name : Label) (ts : Trees) (n : ℕ) (made : List Tree) → count ts ≡ n → act text (step.Compound name n) (onto ts made) ≡ Compound (label_name text name) ts ∷ made
+pub act-onto : (text : List ℕ) (name : Label) (ts : Trees) (n : ℕ) (made : List Tree) → count ts ≡ n → act text (step.Compound n name) (onto ts made) ≡ Compound (label_name text name) ts ∷ made
 act-onto text name ts n made e =
     let m : n ≡ count ts + 0 = omega arith in
     ap (λ r. Compound (label_name text name) r ∷ drop n (onto ts made)) (row-onto ts n 0 made none m ∙ joined-none ts)

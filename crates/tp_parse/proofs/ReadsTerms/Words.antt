@@ -99,8 +99,8 @@ first-split (v ∷ ws) w e = let same : v ≡ w = cc in ap (λ x. x ∷ ws) same
 
 -- the infix operator that stands there
 infix-by : (ops : Table) (text : List ℕ) (w : Word) (k : TokenKind) → w.as_infix ≡ infix_by ops k (token_name text w.token) → named_infix ops (infix_name_by k (token_name text w.token)) ≡ option_map (λ (r : Label × Op). (label_name text r.0, r.1)) (option_map (λ (o : Op). (label_by k w.token, o)) w.as_infix)
-infix-by ops text w kind.Name e = ap (with_op_of (token_name text w.token)) (sym e) ∙ given-op (label_name text) (Written w.token) w.as_infix
-infix-by ops text w kind.Quoted e = ap (with_op_of (token_name text w.token)) (sym e) ∙ given-op (label_name text) (Written w.token) w.as_infix
+infix-by ops text w kind.Name e = ap (with_op_of (token_name text w.token)) (sym e) ∙ given-op (label_name text) (Written w.token.kind w.token.from w.token.to) w.as_infix
+infix-by ops text w kind.Quoted e = ap (with_op_of (token_name text w.token)) (sym e) ∙ given-op (label_name text) (Written w.token.kind w.token.from w.token.to) w.as_infix
 infix-by ops text w kind.Comma e = ap (with_op_of (codes ",")) (sym e) ∙ given-op (label_name text) Comma w.as_infix
 infix-by ops text w kind.Variable e = ap (λ o. option_map (λ (r : Label × Op). (label_name text r.0, r.1)) (option_map (λ (o : Op). (label_by kind.Variable w.token, o)) o)) (sym e)
 infix-by ops text w kind.Integer e = ap (λ o. option_map (λ (r : Label × Op). (label_name text r.0, r.1)) (option_map (λ (o : Op). (label_by kind.Integer w.token, o)) o)) (sym e)

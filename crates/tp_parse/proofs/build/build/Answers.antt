@@ -25,7 +25,7 @@ loop-step-preserved c =
       made = subst (IsMade c.take_step.new.atoms c.take_step.new.making) (sym (trees-take c.args.text.now c.args.steps.now c.loop-step.step-index _ c.loop-step-test.true)) (r.made _ i.made);
       room = omega arith;
       grows = Grows-trans _ _ _ i.grows r.grows;
-      names = names-step _ _ _ _ _ _ _ (trees-take c.args.text.now c.args.steps.now c.loop-step.step-index _ c.loop-step-test.true) i.names (r.names _);
+      names = names-step c.args.text.now _ (trees_of c.args.text.now (take c.loop-step.step-index c.args.steps.now)) _ _ _ _ (trees-take c.args.text.now c.args.steps.now c.loop-step.step-index _ c.loop-step-test.true) i.names (r.names _);
     }
 
 pub returns-clause-names : goal.returns-clause-names
@@ -40,8 +40,8 @@ returns-clause-built c = λ tree e.
 
 pub loop-step-init : goal.loop-step-init
 loop-step-init c = record {
-  made = made-start _ _ c.new.ensures c.new-2.ensures.items c.new-3.ensures;
-  room = let none = ap (λ (n : Numbers). n.vars) c.new-3.ensures in omega arith;
+  made = made-start _ _ c.in_ok-making.ensures.cells c.in_ok-making.ensures.made c.in_ok-making.ensures.variables;
+  room = let none = ap (λ (n : Numbers). n.vars) c.in_ok-making.ensures.variables in omega arith;
   grows = Grows-same _;
   names = AddsOnly-same _ _;
 }

@@ -1,34 +1,31 @@
-use Rattle.std.specs.Str.{chars}
+use Rattle.tp_terms.proofs.NameLemmas.{Grows-same}
+use Rattle.tp_terms.proofs.StartLemmas.{start-place, start-present}
+use Rattle.tp_terms.proofs.SymbolLemmas.{start-empty_list, start-braces, start-conjunction}
 use Rattle.tp_parse.proofs.build.intern.Goals as goal
 
-pub returns-in-ListCell-clause-place : goal.returns-in-ListCell-clause-place
-unfolding chars
-returns-in-ListCell-clause-place c = rw c.in-ListCell.is c.intern.ensures.place
-
 pub returns-in-EmptyList-clause-place : goal.returns-in-EmptyList-clause-place
-unfolding chars
-returns-in-EmptyList-clause-place c = rw c.in-EmptyList.is c.intern-in-EmptyList.ensures.place
-
-pub returns-in-Braces-clause-place : goal.returns-in-Braces-clause-place
-unfolding chars
-returns-in-Braces-clause-place c = rw c.in-Braces.is c.intern-in-Braces.ensures.place
-
-pub returns-in-Comma-clause-place : goal.returns-in-Comma-clause-place
-unfolding chars
-returns-in-Comma-clause-place c = rw c.in-Comma.is c.intern-in-Comma.ensures.place
-
-pub returns-in-ListCell-clause-names : goal.returns-in-ListCell-clause-names
-unfolding chars
-returns-in-ListCell-clause-names c = rw c.in-ListCell.is c.intern.ensures.names
+returns-in-EmptyList-clause-place c = rw (c.in-EmptyList.is, c.start_atom.ensures.same) (start-place c.args.atoms.now c.start_atom.ensures.table _ _ start-empty_list)
 
 pub returns-in-EmptyList-clause-names : goal.returns-in-EmptyList-clause-names
-unfolding chars
-returns-in-EmptyList-clause-names c = rw c.in-EmptyList.is c.intern-in-EmptyList.ensures.names
+returns-in-EmptyList-clause-names c = rw c.in-EmptyList.is (start-present c.args.atoms.now c.start_atom.ensures.table _ _ start-empty_list)
+
+pub returns-in-EmptyList-clause-grows : goal.returns-in-EmptyList-clause-grows
+returns-in-EmptyList-clause-grows c = Grows-same _
+
+pub returns-in-Braces-clause-place : goal.returns-in-Braces-clause-place
+returns-in-Braces-clause-place c = rw (c.in-Braces.is, c.start_atom-in-Braces.ensures.same) (start-place c.args.atoms.now c.start_atom-in-Braces.ensures.table _ _ start-braces)
 
 pub returns-in-Braces-clause-names : goal.returns-in-Braces-clause-names
-unfolding chars
-returns-in-Braces-clause-names c = rw c.in-Braces.is c.intern-in-Braces.ensures.names
+returns-in-Braces-clause-names c = rw c.in-Braces.is (start-present c.args.atoms.now c.start_atom-in-Braces.ensures.table _ _ start-braces)
+
+pub returns-in-Braces-clause-grows : goal.returns-in-Braces-clause-grows
+returns-in-Braces-clause-grows c = Grows-same _
+
+pub returns-in-Comma-clause-place : goal.returns-in-Comma-clause-place
+returns-in-Comma-clause-place c = rw (c.in-Comma.is, c.start_atom-in-Comma.ensures.same) (start-place c.args.atoms.now c.start_atom-in-Comma.ensures.table _ _ start-conjunction)
 
 pub returns-in-Comma-clause-names : goal.returns-in-Comma-clause-names
-unfolding chars
-returns-in-Comma-clause-names c = rw c.in-Comma.is c.intern-in-Comma.ensures.names
+returns-in-Comma-clause-names c = rw c.in-Comma.is (start-present c.args.atoms.now c.start_atom-in-Comma.ensures.table _ _ start-conjunction)
+
+pub returns-in-Comma-clause-grows : goal.returns-in-Comma-clause-grows
+returns-in-Comma-clause-grows c = Grows-same _

@@ -3,6 +3,8 @@ use Rattle.std.proofs.lemmas.Int.{to_z-of_z}
 use Rattle.std.proofs.lemmas.Option.{slice_get_within}
 use Rattle.tp_terms.specs.Term.{Var, Int, Atom}
 use Rattle.tp_terms.proofs.NameLemmas.{name_at-slice_get}
+use Rattle.tp_terms.proofs.StartLemmas.{start-place}
+use Rattle.tp_terms.proofs.SymbolLemmas.{start-list_cell}
 use Rattle.tp_parse.specs.Numbers.{Numbers, number_of}
 use Rattle.tp_parse.specs.Steps.{label_name}
 use Rattle.tp_parse.proofs.Numbered.NewNames.{AddsOnly-same, names-atom, names-compound}
@@ -45,3 +47,11 @@ returns-in_ok-push-in-Atom-clause-names c = λ trees. rw c.in-Atom.is (names-ato
 
 pub returns-in_ok-gather-in-Compound-clause-names : goal.returns-in_ok-gather-in-Compound-clause-names
 returns-in_ok-gather-in-Compound-clause-names c = λ trees. rw c.in-Compound.is (names-compound c.args.text.now c.in-Compound.label c.in-Compound.count trees _ _ c.in_ok-name-in-Compound.ensures.names)
+
+pub returns-in_ok-link-in-List-clause-made : goal.returns-in_ok-link-in-List-clause-made
+returns-in_ok-link-in-List-clause-made c = λ trees h.
+    let there = start-place c.args.atoms.now c.start_atom.ensures.table _ _ start-list_cell in
+    rw c.in-List.is (c.in_ok-link-in-List.ensures.made c.args.atoms.now trees (rw c.start_atom.ensures.same there) h)
+
+pub returns-in_ok-link-in-List-clause-names : goal.returns-in_ok-link-in-List-clause-names
+returns-in_ok-link-in-List-clause-names c = λ trees. AddsOnly-same _ _

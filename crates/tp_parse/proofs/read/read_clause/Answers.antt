@@ -1,4 +1,4 @@
-use Rattle.std.proofs.Common.{Ok, Some, sym, ap, ◌∙◌}
+use Rattle.std.proofs.Common.{Some, sym, ap, ◌∙◌}
 use Rattle.std.proofs.lemmas.Result.{err_from_is_err_and}
 use Rattle.std.specs.declared.alloc.Global.{Global}
 use Rattle.std.specs.declared.vec.Vec.{Vec}
@@ -29,15 +29,13 @@ pub returns-in_err-term-in-Some-true-clause-read : goal.returns-in_err-term-in-S
 returns-in_err-term-in-Some-true-clause-read c =
     let text = c.args.text.now in
     let p = err_from_is_err_and c.from_residual-in_err-term-in-Some-true.result c.from_residual-in_err-term-in-Some-true.ensures.1 in
-    rw (p.1, p.2) (clause-term c.read_words.new.atoms (table_of c.args.ops.now) text c.args.at (ahead text c.deref-in-Some-true.result.now) _
-    (c.in_ok-words.ensures.tokens ∙ ap (λ w. Ok (ahead text w)) (sym c.deref-in-Some-true.ensures.value))
-    (ap (λ w. ended_of (ahead text w)) (c.deref-in-Some-true.ensures.value ∙ sym c.deref.ensures.value) ∙ sym (c.is_ended.ensures text) ∙ c.in-Some-true.is ∙ ap Some c.in-Some-true.field-0-test)
+    rw (p.1, p.2) (clause-term c.read_words.new.atoms (table_of c.args.ops.now) text c.args.at (ahead text c.in_ok-words.words.items) _ c.in_ok-words.ensures.tokens
+    (ap (λ w. ended_of (ahead text w)) (sym c.deref.ensures.value) ∙ sym (c.is_ended.ensures text) ∙ c.in-Some-true.is ∙ ap Some c.in-Some-true.field-0-test)
     c.in_err-term-in-Some-true.ensures.read)
 
-pub returns-clause-read : goal.returns-clause-read
-returns-clause-read c =
+pub returns-in_ok-term-in-Some-true-clause-read : goal.returns-in_ok-term-in-Some-true-clause-read
+returns-in_ok-term-in-Some-true-clause-read c =
     let text = c.args.text.now in
-    clause-tells c.read_words.new.atoms (table_of c.args.ops.now) text c.args.at (ahead text c.deref-in-Some-true.result.now) _
-    (c.in_ok-words.ensures.tokens ∙ ap (λ w. Ok (ahead text w)) (sym c.deref-in-Some-true.ensures.value))
-    (ap (λ w. ended_of (ahead text w)) (c.deref-in-Some-true.ensures.value ∙ sym c.deref.ensures.value) ∙ sym (c.is_ended.ensures text) ∙ c.in-Some-true.is ∙ ap Some c.in-Some-true.field-0-test)
+    clause-tells c.read_words.new.atoms (table_of c.args.ops.now) text c.args.at (ahead text c.in_ok-words.words.items) _ c.in_ok-words.ensures.tokens
+    (ap (λ w. ended_of (ahead text w)) (sym c.deref.ensures.value) ∙ sym (c.is_ended.ensures text) ∙ c.in-Some-true.is ∙ ap Some c.in-Some-true.field-0-test)
     c.in_ok-term-in-Some-true.ensures.read

@@ -1,4 +1,3 @@
-use Rattle.std.proofs.Common.{Ok, sym, ap, ◌∙◌}
 use Rattle.std.proofs.lemmas.Result.{err_from_is_err_and}
 use Rattle.std.proofs.lemmas.Str.{IsCharBoundary-start}
 use Rattle.std.specs.declared.alloc.Global.{Global}
@@ -20,4 +19,4 @@ returns-in_err-words-clause-read c =
 pub returns-clause-read : goal.returns-clause-read
 returns-clause-read c =
     let text = c.args.text.now in
-    goal-tells c.read_words.new.atoms (table_of c.args.ops.now) text (ahead text c.deref.result.now) c.read_words.result (c.in_ok-words.ensures.tokens ∙ ap (λ w. Ok (ahead text w)) (sym c.deref.ensures.value)) c.read_words.ensures.read
+    goal-tells c.read_words.new.atoms (table_of c.args.ops.now) text (ahead text c.in_ok-words.words.items) c.read_words.result c.in_ok-words.ensures.tokens c.read_words.ensures.read

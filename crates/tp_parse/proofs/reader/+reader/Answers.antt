@@ -1,9 +1,10 @@
-use Rattle.std.proofs.Common.{◌≡◌, ◌+◌, ◌-◌, suc, length, refl, sym, ap, ◌∙◌, arith}
+use Rattle.std.proofs.Common.{◌≡◌, ◌+◌, ◌-◌, suc, [], ◌∷◌, ◌++◌, length, refl, sym, ap, ◌∙◌, arith}
 use Rattle.std.proofs.lemmas.Result.{err_from_is_err_and}
 use Rattle.tp_parse.specs.Ops.{table_of}
 use Rattle.tp_parse.specs.Reading.{reading, infix_parts, args}
 use Rattle.tp_parse.specs.Steps.{trees_of, top_of}
 use Rattle.tp_parse.specs.Words.{ahead}
+use Rattle.tp_parse.specs.declared.steps.Step.TheVariants as step
 use Rattle.tp_parse.proofs.ReadsTerms.Words.{ahead-after, ahead-length, some-first}
 use Rattle.tp_parse.proofs.ReadsTerms.Exits.{going-after, going-step, going-same, going-items, named-has}
 use Rattle.tp_parse.proofs.ReadsTerms.Loops.{Fails-then, Fails-same, reading-zero, reading-step, read-then, read-some, primary-none, primary-at, primary-named, primary-simple, args-start, args-more, args-last, args-fails, args-end, arg-then, arg-fails, elements-start, elements-more, elements-last, elements-enough, elements-fails, elements-end, element-then, element-fails, parts-start, parts-more, parts-none, parts-fails, parts-end, part-none, part-some, prefixed-is, operand-taken, operand-refused, compound-read, row-enough, operand-read, part-read, part-two, infix-label, braced-read, named-kind}
@@ -121,7 +122,7 @@ pub read_compound-returns-clause-gives : goal.read_compound-returns-clause-gives
 read_compound-returns-clause-gives t c =
     let ops = table_of c.args.source.now.ops.now in
     let text = c.args.source.now.text.now in
-    compound-read (reading ops c.args.levels) text c.read_args.new.at.steps.items c.push.new.self.items _ _ _ (ahead text c.args.at.now.cursor) _ _ c.in_ok-push.ensures.items (ap (ahead text) c.pass.ensures ∙ ahead-after text c.args.at.now.cursor) c.in_ok-count.ensures.gives
+    compound-read (reading ops c.args.levels) text c.read_args.new.at.steps.items c.push.new.self.items _ _ _ (ahead text c.args.at.now.cursor) _ _ (c.in_ok-push.ensures.items ∙ ap (λ l. c.read_args.new.at.steps.items ++ step.Compound c.in_ok-count.count l ∷ []) c.written.ensures) (ap (ahead text) c.pass.ensures ∙ ahead-after text c.args.at.now.cursor) c.in_ok-count.ensures.gives
 
 pub read_compound-returns-clause-going : goal.read_compound-returns-clause-going
 read_compound-returns-clause-going t c =
@@ -130,14 +131,14 @@ read_compound-returns-clause-going t c =
     let r = c.in_ok-count.ensures in
     let some = r.gives.some in
     let enough = row-enough _ _ _ _ _ r.gives in
-    going-step ops text c.read_args.new.at.cursor c.read_args.new.at.steps.items c.push.new.self.items _ c.in_ok-push.ensures.items ((c.requires.known.given, named-has c.args.word.token.kind c.requires.named), some, enough) r.going
+    going-step ops text c.read_args.new.at.cursor c.read_args.new.at.steps.items c.push.new.self.items _ (c.in_ok-push.ensures.items ∙ ap (λ l. c.read_args.new.at.steps.items ++ step.Compound c.in_ok-count.count l ∷ []) c.written.ensures) ((c.requires.known.given, named-has c.args.word.token.kind c.requires.named), some, enough) r.going
 
 pub read_operand-returns-clause-gives : goal.read_operand-returns-clause-gives
 read_operand-returns-clause-gives t c =
     let ops = table_of c.args.source.now.ops.now in
     let text = c.args.source.now.text.now in
     let r = c.in_ok-read.ensures.gives in
-    operand-read (reading ops c.args.levels) text c.read.new.at.steps.items c.push.new.self.items _ _ _ (ahead text c.args.at.now.cursor) _ c.args.op c.in_ok-push.ensures.items (rw c.right_bound.ensures at r)
+    operand-read (reading ops c.args.levels) text c.read.new.at.steps.items c.push.new.self.items _ _ _ (ahead text c.args.at.now.cursor) _ c.args.op (c.in_ok-push.ensures.items ∙ ap (λ l. c.read.new.at.steps.items ++ step.Compound 1 l ∷ []) c.written.ensures) (rw c.right_bound.ensures at r)
 
 pub read_operand-returns-clause-going : goal.read_operand-returns-clause-going
 read_operand-returns-clause-going t c =
@@ -145,7 +146,7 @@ read_operand-returns-clause-going t c =
     let text = c.args.source.now.text.now in
     let r = c.in_ok-read.ensures in
     let some = read-some _ _ _ _ _ r.gives in
-    going-step ops text c.read.new.at.cursor c.read.new.at.steps.items c.push.new.self.items _ c.in_ok-push.ensures.items ((c.requires.known.given, named-has c.args.word.token.kind c.requires.named), omega arith, some) r.going
+    going-step ops text c.read.new.at.cursor c.read.new.at.steps.items c.push.new.self.items _ (c.in_ok-push.ensures.items ∙ ap (λ l. c.read.new.at.steps.items ++ step.Compound 1 l ∷ []) c.written.ensures) ((c.requires.known.given, named-has c.args.word.token.kind c.requires.named), omega arith, some) r.going
 
 pub read_prefixed-returns-in_default-clause-gives : goal.read_prefixed-returns-in_default-clause-gives
 read_prefixed-returns-in_default-clause-gives t c =

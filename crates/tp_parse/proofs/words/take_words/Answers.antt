@@ -6,8 +6,8 @@ use Rattle.tp_parse.proofs.words.take_words.Goals as goal
 
 pub returns-then-stops_at-clause-known : goal.returns-then-stops_at-clause-known
 returns-then-stops_at-clause-known c =
-    known-more (table_of c.args.source.now.ops.now) c.args.source.now.text.now c.loop-words.words.items c.push.new.self.items c.in-Some.word
-    c.in_ok-push.ensures.items c.loop-words.invariant.known (rw c.in-Some.is at c.in_ok-word.ensures.known)
+    known-more (table_of c.args.source.now.ops.now) c.args.source.now.text.now c.loop-words.words.items c.add_word.new.words.items c.in-Some.word
+    c.in_ok-add_word.ensures c.loop-words.invariant.known (rw c.in-Some.is at c.in_ok-word.ensures.known)
 
 pub loop-words-preserved : goal.loop-words-preserved
 loop-words-preserved c =
@@ -17,10 +17,10 @@ loop-words-preserved c =
     record {
       start = inr there;
       there = λ _. there;
-      same = words-more c.args.source.now.text.now c.loop-words.words.items c.push.new.self.items c.in-Some.word _ _ _ _ c.in_ok-push.ensures.items tokens (sym c.if-stops_at.false ∙ c.stops_at.ensures) c.loop-words.invariant.same;
+      same = words-more c.args.source.now.text.now c.loop-words.words.items c.add_word.new.words.items c.in-Some.word _ _ _ _ c.in_ok-add_word.ensures tokens (sym c.if-stops_at.false ∙ c.stops_at.ensures) c.loop-words.invariant.same;
       place = place.next_place;
-      known = known-more (table_of c.args.source.now.ops.now) c.args.source.now.text.now c.loop-words.words.items c.push.new.self.items c.in-Some.word
-          c.in_ok-push.ensures.items c.loop-words.invariant.known (rw c.in-Some.is at c.in_ok-word.ensures.known);
+      known = known-more (table_of c.args.source.now.ops.now) c.args.source.now.text.now c.loop-words.words.items c.add_word.new.words.items c.in-Some.word
+          c.in_ok-add_word.ensures c.loop-words.invariant.known (rw c.in-Some.is at c.in_ok-word.ensures.known);
     }
 
 pub loop-words-init : goal.loop-words-init
