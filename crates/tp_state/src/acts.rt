@@ -1,7 +1,7 @@
 //! Acts on a state. Where an act changes bindings, processes, the calendar or boxes, it adds to the
 //! log what takes it back.
 
-ghost use Rattle.std.specs.Prelude.{◌≡◌, ◌≢◌, ◌<◌, length, slice_get, slice_set, Some, IfSome, IfOk, OnOk, List, ◌∷◌};
+ghost use Rattle.std.specs.Prelude.{◌≡◌, ◌≢◌, ◌<◌, length, slice_get, slice_set, true, Some, Ok, IfSome, IfOk, OnOk, List, ◌∷◌};
 ghost use Rattle.tp_terms.specs.declared.world.Proc.{Proc};
 ghost use Rattle.tp_terms.specs.declared.world.Slot.{Slot};
 ghost use Rattle.tp_state.specs.Acts.{is_unmarked, mark, mark_others};
@@ -35,7 +35,9 @@ fn is_unmarked(proc: &Proc) -> bool
 }
 
 impl State {
-    ghost use Rattle.tp_state.specs.Acts.{pushed, resting, bodied, noted, ran, left, begun, opened, changed};
+    ghost use Rattle.tp_store.specs.Contents.{FindsUnifier, IsStore};
+    ghost use Rattle.tp_store.specs.Logged.{Logs};
+    ghost use Rattle.tp_state.specs.Acts.{pushed, resting, bodied, noted, ran, left, begun, opened, changed, with_store};
     ghost use Rattle.tp_state.specs.Going.{Follows};
 
     // ---- the running process
@@ -75,6 +77,31 @@ impl State {
             None => Ok(()),
             Some(goal) => self.push(Item::Goal { goal, barrier }),
         }
+    }
+
+    // ---- bindings
+
+    /// Makes the terms of two places equal, by the most general unifier over the bindings so far
+    /// (ISO/IEC 13211-1, clause 7.3), and logs each binding. False exactly where there is no
+    /// unifier.
+    ///
+    /// Answers `NoMemory` where memory is refused. What is held is as before then, and where the
+    /// answer is false.
+    pub fn unify(&mut self, left: Ref, right: Ref) -> Result<bool, NoMemory>
+        requires left { left.at < length self.old.store.cells }
+        requires right { right.at < length self.old.store.cells }
+        ensures found { IfOk result (FindsUnifier self.old.store self.new.store left right) }
+        ensures logged { Logs self.old.store self.new.store self.old.log self.new.log }
+        ensures plain { plain_of self.new ≡ with_store self.new.store (plain_of self.old) }
+        ensures stays { result ≢ Ok true → held_of self.new ≡ held_of self.old }
+        ensures follows { Follows (held_of self.old) (held_of self.new) }
+        ensures same { self.new ≡ record self.old {
+          store = self.new.store;
+          log = self.new.log;
+        } }
+        ensures store { IsStore self.new.store }
+    {
+        self.store.unify(left, right, &mut self.log)
     }
 
     // ---- processes

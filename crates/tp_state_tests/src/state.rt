@@ -10,7 +10,7 @@ use tp_control::Item;
 use tp_state::State;
 use tp_store::Store;
 use tp_terms::symbols::MAIN;
-use tp_terms::{Cell, EventKind, Limit, NoMemory, Proc, ProcStatus, Ref};
+use tp_terms::{Binds, Cell, EventKind, Limit, NoMemory, Proc, ProcStatus, Ref};
 
 /// Whether the first process is `main` with this start and status.
 fn is_main(state: &State, started: bool, status: ProcStatus) -> bool {
@@ -28,6 +28,7 @@ fn waits(state: &State) -> bool {
         && state.first_marked() == None
         && state.is_any_live()
         && !state.is_any_late(6)
+        && state.store.bound(0) == None
         && is_main(state, false, ProcStatus::Scheduled)
 }
 
@@ -39,6 +40,7 @@ fn is_parked(state: &State) -> bool {
         && state.first_marked() == Some(0)
         && state.is_any_live()
         && state.is_any_late(6)
+        && state.store.bound(0) == Some(Ref { at: 0 })
         && is_main(state, true, ProcStatus::Parked { marked: true })
 }
 
@@ -48,6 +50,7 @@ fn waiting(alloc: Global) -> Result<State, NoMemory>
 {
     let mut store = Store::new(alloc);
     let goal = store.place(Cell::Atom(MAIN))?;
+    store.fresh()?;
     let mut state = State::waiting(alloc, store, goal)?;
     state.clock = -4;
     Ok(state)
@@ -93,6 +96,17 @@ fn takes_items(state: &mut State) -> Result<(), NoMemory>
     Ok(())
 }
 
+/// Two places show the same, where both are there.
+fn makes_equal(state: &mut State, left: Ref, right: Ref) -> Result<bool, NoMemory>
+    ensures { OnOk result (Follows (held_of state.old) (held_of state.new)) }
+{
+    let cells = state.store.cells().len();
+    if left.at < cells && right.at < cells {
+        return state.unify(left, right);
+    }
+    Ok(false)
+}
+
 /// A process has an end time.
 fn ends_at(state: &mut State, pid: usize, time: i64) -> Result<(), NoMemory>
     ensures { OnOk result (Follows (held_of state.old) (held_of state.new)) }
@@ -115,7 +129,7 @@ fn leaves(state: &mut State, pid: usize, status: ProcStatus) -> Result<(), NoMem
     Ok(())
 }
 
-/// The first process of the calendar starts, and is parked and marked.
+/// The first process of the calendar starts, binds a variable, and is parked and marked.
 fn goes_on(state: &mut State) -> Result<(), NoMemory>
     ensures { OnOk result (Follows (held_of state.old) (held_of state.new)) }
 {
@@ -124,6 +138,7 @@ fn goes_on(state: &mut State) -> Result<(), NoMemory>
     opens(state, pid)?;
     state.note(pid, EventKind::Note(Ref { at: 0 }))?;
     takes_items(state)?;
+    makes_equal(state, Ref { at: 1 }, Ref { at: 0 })?;
     ends_at(state, pid, 5)?;
     leaves(state, pid, ProcStatus::Parked { marked: false })?;
     state.mark_others(1)?;

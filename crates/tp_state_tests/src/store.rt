@@ -13,6 +13,18 @@ const B: AtomId = AtomId { at: 1 };
 
 const F: AtomId = AtomId { at: 2 };
 
+/// Whether a place is there and shows an atom.
+fn shows(store: &Store, at: Ref, name: AtomId) -> bool {
+    at.at < store.cells().len() && store.top(at) == Cell::Atom(name)
+}
+
+/// Whether two adjacent places are there and show atoms.
+fn show(store: &Store, first: Ref, left: AtomId, right: AtomId) -> bool {
+    first.at < store.cells().len()
+        && shows(store, first, left)
+        && shows(store, Ref { at: first.at + 1 }, right)
+}
+
 /// Whether `f(X, b)` and `f(a, Y)` are made equal by `a` for `X` and `b` for `Y`.
 fn makes_equal(alloc: Global) -> Result<bool, NoMemory> {
     let mut head = Cells::new(alloc);
@@ -76,11 +88,29 @@ fn goes_back(alloc: Global) -> Result<bool, NoMemory> {
     Ok(body == Some(Ref { at: 1 }) && count == 2 && store.mark() == mark)
 }
 
+/// Whether `f(a)` with the further argument `b` is `f(a, b)`.
+fn takes_more(alloc: Global) -> Result<bool, NoMemory> {
+    let mut store = Store::new(alloc);
+    let a = store.place(Cell::Atom(A))?;
+    let goal = store.place(Cell::Comp {
+        name: F,
+        first: a,
+        count: 1,
+    })?;
+    let b = store.place(Cell::Atom(B))?;
+    let joined = store.join(goal, b, 1)?;
+    Ok(match store.top(joined) {
+        Cell::Comp { name, first, count } => name == F && count == 2 && show(&store, first, A, B),
+        _ => false,
+    })
+}
+
 #[test]
 fn each_call_once(rt: HostRuntime) -> Result<(), Fail> {
     assert!(rt; makes_equal(rt.alloc())?);
     assert!(rt; asks(rt.alloc())?);
     assert!(rt; takes_back(rt.alloc())?);
     assert!(rt; goes_back(rt.alloc())?);
+    assert!(rt; takes_more(rt.alloc())?);
     Ok(())
 }

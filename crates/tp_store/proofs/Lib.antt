@@ -1,7 +1,10 @@
 pub mod Unifier
 pub mod Copies
 pub mod Bodies
+pub mod Arguments
 pub mod Substitution
 pub mod Trail
 pub mod FitsLemmas
 pub mod StoreLemmas
+pub mod NamelessLemmas
+pub mod Comparison

@@ -7,16 +7,17 @@ use Rattle.tp_terms.specs.declared.cells.Cell.{Cell}
 use Rattle.tp_terms.specs.declared.cells.Cell.TheVariants as cell
 use Rattle.tp_terms.specs.declared.cells.Ref.{Ref}
 use Rattle.tp_terms.specs.declared.world.StoreMark.{StoreMark}
-use Rattle.tp_terms.specs.Term.{Name, Var}
+use Rattle.tp_terms.specs.Term.{Name, Var, count_of}
 use Rattle.tp_terms.specs.Shown.{shows, shown_from, args_at, StandsBefore, AreNamed}
 use Rattle.tp_terms.specs.Binds.{Bindings, bound_in}
 use Rattle.tp_terms.proofs.ShownLemmas.{shows-cell, shows-names}
 use Rattle.tp_terms.proofs.NameLemmas.{slice_get-append}
 use Rattle.tp_meaning.specs.Subst.{IsSubst, apply, extended, value_at}
 use Rattle.tp_meaning.specs.Valid.{Below, AllBelow}
+use Rattle.tp_meaning.proofs.Complete.{count-replaced}
 use Rattle.tp_meaning.proofs.Unify.{unbound}
 use Rattle.tp_meaning.proofs.Under.{Bound, apply-below, extended-below}
-use Rattle.tp_store.specs.Contents.{Contents, chained, subst_of, seen, AreChained, IsStore, CanGoBack, cut_to_mark}
+use Rattle.tp_store.specs.Contents.{Contents, chained, subst_of, seen, args_seen, AreChained, IsStore, CanGoBack, cut_to_mark}
 use Rattle.tp_store.proofs.Substitution.Chained.{IsSubst-chained, unnamed, named, unclaimed}
 use Rattle.tp_store.proofs.Substitution.Kept.{slice_get-take}
 
@@ -38,6 +39,16 @@ value-unbound names c v s e = unbound v (subst_of names c) (unnamed names c.cell
 
 pub value-bound : (names : List Name) (c : Contents) (v : ℕ) (place : Ref) → IsStore c → bound_in c.pairs v ≡ Some place → value_at (subst_of names c) v ≡ seen names c place.at
 value-bound names c v place s e = (named names c.cells c.vars c.pairs v place (s.chain names) e).value
+
+-- ---- arguments
+
+count-args : (names : List Name) (cells : List Cell) (a n : ℕ) → count_of (args_at names cells a n) ≡ n
+count-args names cells a zero = refl
+count-args names cells a (suc n) = let h = count-args names cells (suc a) n in omega (arith, h)
+
+-- the number of arguments that are seen
+pub count-seen : (names : List Name) (c : Contents) (a n : ℕ) → count_of (args_seen names c a n) ≡ n
+count-seen names c a n = count-replaced (value_at (subst_of names c)) (args_at names c.cells a n) ∙ count-args names c.cells a n
 
 -- ---- variables
 

@@ -4,11 +4,11 @@ use Rattle.tp_terms.specs.declared.cells.Cell.{Cell}
 use Rattle.tp_terms.specs.declared.cells.Cell.TheVariants as cell
 use Rattle.tp_terms.specs.declared.cells.Ref.{Ref}
 use Rattle.tp_terms.specs.declared.world.StoreMark.{StoreMark}
-use Rattle.tp_terms.specs.Term.{Name, Term, occurs}
-use Rattle.tp_terms.specs.Shown.{shows, shown_from, AreBuilt, AreNamed}
+use Rattle.tp_terms.specs.Term.{Name, Term, Terms, occurs, all_replaced}
+use Rattle.tp_terms.specs.Shown.{shows, shown_from, args_at, AreBuilt, AreNamed}
 use Rattle.tp_terms.specs.Names.{AreDistinct}
 use Rattle.tp_terms.specs.Binds.{Bindings, bound_in}
-use Rattle.tp_meaning.specs.Subst.{Subst, apply, extended, mgu}
+use Rattle.tp_meaning.specs.Subst.{Subst, apply, extended, mgu, value_at}
 
 -- the cells by their places; the bindings, the newest first; how many variable numbers were claimed
 pub record Contents : Type 0 where
@@ -31,6 +31,11 @@ subst_of names c = chained names c.cells c.pairs
 -- the term of a place, under the bindings
 abbrev pub seen : List Name → Contents → ℕ → Term
 seen names c at = apply (subst_of names c) (shows names c.cells at)
+
+-- the terms of so many adjacent places, under the bindings
+abbrev pub args_seen : List Name → Contents → ℕ → ℕ → Terms
+args_seen names c first count =
+    all_replaced (value_at (subst_of names c)) (args_at names c.cells first count)
 
 -- the term of a cell, under the bindings
 abbrev pub seen_cell : List Name → Contents → Cell → Term

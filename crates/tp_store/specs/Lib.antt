@@ -4,3 +4,5 @@ pub mod Work
 pub mod Copy
 pub mod Bodies
 pub mod Logged
+pub mod Joined
+pub mod Ordered

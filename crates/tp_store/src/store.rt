@@ -1,6 +1,6 @@
 //! The store.
 
-ghost use Rattle.std.specs.Prelude.{◌≡◌, ◌≢◌, ℕ, ◌<◌, List, [], length, true, Ok, Some, None, is_some, option_map, OnOk, OnErr, IfOk, IfSome, IfNone, if◌then◌else◌};
+ghost use Rattle.std.specs.Prelude.{◌≡◌, ◌≢◌, ℕ, ◌+◌, ◌<◌, ◌≤◌, List, [], length, true, Ok, Some, None, is_some, option_map, OnOk, OnErr, IfOk, IfSome, IfNone, if◌then◌else◌};
 ghost use Rattle.tp_terms.specs.Term.{Name};
 ghost use Rattle.tp_terms.specs.Names.{IsTable};
 ghost use Rattle.tp_terms.specs.Shown.{AreNamed, IsNamed, StandsBefore, shows};
@@ -11,19 +11,24 @@ ghost use Rattle.tp_meaning.specs.Subst.{mgu};
 ghost use Rattle.tp_store.specs.Contents.{AddsCells, IsStore, Names, IsNumbered, IsUnbound, CanGoBack, FindsUnifier, IsUnifiable, Keeps, cut_to_mark, with_cell, with_vars, seen, seen_cell, subst_of};
 ghost use Rattle.tp_store.specs.Copy.{IsClaimed, IsLast, NamesBoth, ShowsCopy};
 ghost use Rattle.tp_store.specs.Logged.{FindsHead, IsBound, KeepsTerms, Logs, LogsHead, unbound};
+ghost use Rattle.tp_store.specs.Joined.{HasRoom, IsCallable, KeepsAtoms, ShowsMore};
+ghost use Rattle.tp_store.specs.Ordered.{IsOrder};
 ghost use Rattle.tp_store.specs.Bodies.{AsksMemory, FindsBody, IsWithin, KeepsNames, KeepsOwn};
 
 use crate::body::body_of;
 use crate::chains::Chains;
 use crate::copy::instance;
 use crate::head::unify_head;
+use crate::join::goal_with;
 use crate::logged::unify_logged;
+use crate::order::compare;
 use crate::solve::unifiable;
 use std::alloc::Global;
+use std::cmp::Ordering;
 use std::marker::Model;
 use tp_log::Log;
 use tp_terms::symbols::CALL;
-use tp_terms::{Binds, Cell, Cells, NoMemory, Ref, StoreMark};
+use tp_terms::{Atoms, Binds, Cell, Cells, NoMemory, Ref, StoreMark};
 
 /// Terms in cells, and what their variables are bound to. Contracts see its cells, its bindings and
 /// how many variable numbers were claimed; `subst_of` of specs/Contents.antt is the substitution
@@ -215,6 +220,23 @@ impl Store {
         unifiable(&mut self.chains, alloc, left, right)
     }
 
+    /// The standard order of the terms of two places, under the bindings: variables by number, then
+    /// integers by value, then atoms by their characters, then compounds by number of arguments,
+    /// name and arguments from the left (ISO/IEC 13211-1, clause 7.2). The condition `named` is
+    /// that each atom is of the table.
+    ///
+    /// Answers `NoMemory` where the memory for it isn't had.
+    pub fn compare(&self, left: Ref, right: Ref, atoms: &Atoms) -> Result<Ordering, NoMemory>
+        requires left { left.at < length self.now.cells }
+        requires right { right.at < length self.now.cells }
+        requires named { AreNamed (length atoms.now) self.now.cells }
+        ensures order { IfOk result (IsOrder atoms.now self.now left right) }
+        ensures store { IsStore self.now }
+    {
+        let alloc = *self.chains.pairs.allocator();
+        compare(&self.chains, alloc, left, right, atoms)
+    }
+
     /// A place for the body of a goal, which is seen under the bindings: a variable is called. In
     /// `,`, `;` and `->` with two goals both are bodies in their turn, and every other goal is its
     /// own body (ISO/IEC 13211-1, clause 7.6.2). None exactly where it has no body: an integer
@@ -238,6 +260,30 @@ impl Store {
     {
         let alloc = *self.chains.pairs.allocator();
         body_of(&mut self.chains, alloc, goal)
+    }
+
+    /// A place for a goal with further arguments: the atom or compound that `goal` shows under the
+    /// bindings, with the terms of the `count` adjacent places from `first` on behind its own
+    /// arguments (ISO/IEC 13211-1:1995/Cor.2:2012, clause 8.15.4). The conditions `callable` and
+    /// `room` say that it is an atom or a compound, and that its arguments and the further ones are
+    /// 255 at most. No term is copied, and no place that stood shows another term afterwards.
+    ///
+    /// Answers `NoMemory` where the memory for it isn't had, and then the store is as before.
+    pub fn join(&mut self, goal: Ref, first: Ref, count: u8) -> Result<Ref, NoMemory>
+        requires goal { goal.at < length self.old.cells }
+        requires callable { IsCallable self.old goal }
+        requires args { first.at + count ≤ length self.old.cells }
+        requires some { 0 < count }
+        requires room { HasRoom self.old goal count }
+        ensures shown { IfOk result (ShowsMore self.old self.new goal first count) }
+        ensures place { IfOk result (λ at. at.at < length self.new.cells) }
+        ensures adds { AddsCells self.old self.new }
+        ensures keeps { Keeps self.old self.new }
+        ensures err { OnErr result (self.new ≡ self.old) }
+        ensures store { IsStore self.new }
+        ensures named { OnOk result (KeepsAtoms self.old self.new) }
+    {
+        goal_with(&mut self.chains, goal, first, count)
     }
 
     /// How many cells and variable numbers there are.

@@ -1,17 +1,16 @@
 -- Bindings that are taken back.
-use Rattle.std.proofs.Common.{◌≡◌, ℕ, ◌+◌, ◌≤◌, true, nat_eq, is_some, List, [], ◌∷◌, ◌++◌, map, reverse, refl, ap, sym, subst, ◌∙◌, arith}
-use Rattle.std.proofs.lemmas.List.{reverse-append, map-append}
+use Rattle.std.proofs.Common.{◌≡◌, ℕ, List, [], ◌∷◌, ◌++◌, map, reverse, refl, ap, sym, subst, ◌∙◌, arith}
+use Rattle.std.proofs.lemmas.List.{append-nil, reverse-append, map-append}
 use Rattle.std.proofs.lemmas.Bool.Decides.{nat_tests}
 use Rattle.tp_terms.specs.declared.cells.Ref.{Ref}
-use Rattle.tp_terms.specs.Binds.{Bindings, bound_in}
+use Rattle.tp_terms.specs.Binds.{Bindings}
 use Rattle.tp_log.specs.declared.entry.Entry.{Entry}
 use Rattle.tp_log.specs.declared.entry.Entry.TheVariants as entry
 use Rattle.tp_store.specs.Contents.{Contents}
-use Rattle.tp_store.specs.Logged.{bindings_logged, without_pair, IsBound}
-use Rattle.tp_state.specs.Plain.{Plain}
+use Rattle.tp_store.specs.Logged.{Logs, bindings_logged, without_pair, IsBound}
 use Rattle.tp_state.specs.Acts.{with_store}
-use Rattle.tp_state.specs.Undo.{Parts, Rooms, Allows, CanUndo, undone, rooms_undone}
-use Rattle.tp_state.specs.Going.{Held, IsSafe, Follows, StoreGrows, parts_of}
+use Rattle.tp_state.specs.Undo.{Parts, Rooms, CanUndo, undone, rooms_undone}
+use Rattle.tp_state.specs.Going.{Held, Follows, StoreGrows, parts_of}
 use Rattle.tp_state.proofs.GoingBack.Logs.{undone-append, rooms-append, can-append}
 use Rattle.tp_state.proofs.GoingBack.Follows.{prolongs-same}
 
@@ -50,6 +49,17 @@ rooms-same : (more : Bindings) (r : Rooms) → rooms_undone (bindings_logged mor
 rooms-same [] r = refl
 rooms-same (q ∷ more) r =
     ap (λ es. rooms_undone es r) (logged-newest q more) ∙ rooms-append (bindings_logged more) (entry.Bind q.0 ∷ []) r ∙ rooms-same more r
+
+-- A store that has further bindings grew.
+pub logs-grow : (old new : Contents) (before after : List Entry) → Logs old new before after → StoreGrows old new before after
+logs-grow old new before after l = record {
+  more_cells = [];
+  more = l.more;
+  cells = l.cells ∙ sym (append-nil old.cells);
+  pairs = l.pairs;
+  vars = omega (arith, l.vars);
+  log = l.log;
+}
 
 -- A store that grew follows.
 pub store-follows : (h : Held) (c : Contents) (log : List Entry) → StoreGrows h.plain.store c h.log log → Follows h (record { plain = with_store c h.plain; log = log; rooms = h.rooms })

@@ -376,13 +376,13 @@ own_at c now root p q e h = subst (λ (r : Ref). KeepsOwn c now root (Some r)) (
 -- ---- goals that are made
 
 -- what a new cell shows
-new_cell : (c c' : Contents) (x : Cell) (at : ℕ) → IsStore c → c' ≡ with_cell c x → at ≡ length c.cells → (names : List Name) → seen names c' at ≡ seen_cell names c x
+pub new_cell : (c c' : Contents) (x : Cell) (at : ℕ) → IsStore c → c' ≡ with_cell c x → at ≡ length c.cells → (names : List Name) → seen names c' at ≡ seen_cell names c x
 new_cell c c' x at s e last names =
     ap (λ (y : Contents). apply (chained names y.cells y.pairs) (shows names y.cells at)) e
     ∙ ap (λ u. apply u (shows names (c.cells ++ x ∷ []) at)) (subst_of-append names c (x ∷ []) s)
     ∙ ap (apply (subst_of names c)) (ap (shows names (c.cells ++ x ∷ [])) last ∙ shows-push names c.cells x)
 
-named_more : (n : ℕ) (c c' : Contents) (x : Cell) → c' ≡ with_cell c x → AreNamed n c.cells → IsNamed n x → AreNamed n c'.cells
+pub named_more : (n : ℕ) (c c' : Contents) (x : Cell) → c' ≡ with_cell c x → AreNamed n c.cells → IsNamed n x → AreNamed n c'.cells
 named_more n c c' x e h i = subst (λ (y : Contents). AreNamed n y.cells) (sym e) (AreNamed-append n c.cells (x ∷ []) h (i, tt))
 
 pub called_shown : {E : Type 0} (r : Result Ref E) (c c' : Contents) (place : Ref) → IsStore c → IfOk r (λ at. at.at ≡ length c.cells) → OnOk r (c' ≡ with_cell c (cell.Comp CALL place 1)) →

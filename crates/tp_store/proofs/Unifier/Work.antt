@@ -67,7 +67,7 @@ pub places_size-append : (c : Contents) (rs qs : List Ref) → places_size c (rs
 places_size-append c [] qs = omega arith
 places_size-append c (r ∷ rs) qs = omega (arith, places_size-append c rs qs)
 
-pairs_size-pairs_from : (c : Contents) (a b n : ℕ) → pairs_size c (pairs_from a b n) ≡ terms_size (all_replaced (value_at (subst_of [] c)) (args_at [] c.cells a n))
+pub pairs_size-pairs_from : (c : Contents) (a b n : ℕ) → pairs_size c (pairs_from a b n) ≡ terms_size (all_replaced (value_at (subst_of [] c)) (args_at [] c.cells a n))
 pairs_size-pairs_from c a b zero = refl
 pairs_size-pairs_from c a b (suc n) = ap (λ k. term_size (seen [] c a) + k) (pairs_size-pairs_from c (suc a) (suc b) n)
 
@@ -87,7 +87,7 @@ pub AreIn-front : (cells : List Cell) (rs qs : List Ref) → AreIn cells (rs ++ 
 AreIn-front cells [] qs h = (tt, h)
 AreIn-front cells (r ∷ rs) qs h = let k = AreIn-front cells rs qs h.1 in ((h.0, k.0), k.1)
 
-ArePairsIn-pairs_from : (cells : List Cell) (a b n : ℕ) → a + n ≤ length cells → b + n ≤ length cells → ArePairsIn cells (pairs_from a b n)
+pub ArePairsIn-pairs_from : (cells : List Cell) (a b n : ℕ) → a + n ≤ length cells → b + n ≤ length cells → ArePairsIn cells (pairs_from a b n)
 ArePairsIn-pairs_from cells a b zero h k = tt
 ArePairsIn-pairs_from cells a b (suc n) h k = (omega arith, omega arith, ArePairsIn-pairs_from cells (suc a) (suc b) n (omega arith) (omega arith))
 

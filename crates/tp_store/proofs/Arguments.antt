@@ -1,0 +1,2 @@
+-- The arguments of goals that are given further ones.
+pub mod Joined

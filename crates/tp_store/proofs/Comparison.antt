@@ -1,0 +1,3 @@
+-- The standard order of what places show.
+pub mod Texts
+pub mod Ranked
