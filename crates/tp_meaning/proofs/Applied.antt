@@ -5,7 +5,7 @@ use Rattle.tp_terms.specs.Term.{Term, Var, replaced, occurs}
 use Rattle.tp_meaning.specs.Subst.{Subst, Idem, IsSubst, mgu, value_at, apply, bound_to}
 use Rattle.tp_meaning.specs.Unifier.{Solves}
 use Rattle.tp_meaning.specs.Clauses.{renamed}
-use Rattle.tp_meaning.proofs.Terms.{replaced-replaced, replaced-same}
+use Rattle.tp_meaning.proofs.Replaced.{replaced-replaced, replaced-same}
 use Rattle.tp_meaning.proofs.Unify.{over_term, unbound, replaced-itself, free_applied, mgu_good}
 use Rattle.tp_meaning.proofs.Under.{Bound}
 

@@ -5,7 +5,7 @@ use Rattle.std.proofs.lemmas.Slice.Eq.{bytes_eq-Decides}
 use Rattle.std.proofs.lemmas.Bool.Decides.{Decides-int_eq}
 use Rattle.tp_terms.specs.Term.{Term, Terms, Var, Int, Atom, Comp, NoMore, More, replaced, all_replaced, occurs, occurs_in, term_eq, names_eq, count_of, term_size, terms_size}
 use Rattle.tp_meaning.specs.Subst.{Idem, Subst, Equations, Next, mgu, value_at, apply, extended, for_one, bound_to, bind, solve_pair, walk, rounds, size_under, pairs_of}
-use Rattle.tp_meaning.proofs.Terms.{replaced-replaced, replaced-same, or_true}
+use Rattle.tp_meaning.proofs.Replaced.{replaced-replaced, replaced-same, or_true}
 use Rattle.tp_meaning.proofs.Unify.{differ, or_either, either, Equal, Over, Free, over_term, over_extended, value-extended, occurs-replaced, idem_extended, replaced-itself, free_applied, unbound, one_free, pairs_join, flip_eq}
 
 abbrev mem : ℕ → List ℕ → Bool

@@ -1,9 +1,8 @@
 -- Worlds that a process goes on to are valid.
-use Rattle.std.proofs.Common.{◌≡◌, ℕ, ◌+◌, ◌≤◌, ◌<◌, List, [], ◌∷◌, length, Some, refl, arith, false}
-use Rattle.std.specs.List.{AllByRecursion}
+use Rattle.std.proofs.Common.{◌≡◌, ℕ, ◌+◌, ◌≤◌, ◌<◌, List, ◌∷◌, length, Some, refl, arith, false}
 use Rattle.tp_terms.specs.Term.{Term}
 use Rattle.tp_meaning.specs.World.{World, Ended, Parked, Item, Goal, Commit, Retry, End, with_event, with_status, stamped, let_go}
-use Rattle.tp_meaning.specs.Turn.{Turn, going, some}
+use Rattle.tp_meaning.specs.Turn.{Turn, going}
 use Rattle.tp_meaning.specs.Process.{tried, await_again}
 use Rattle.tp_meaning.specs.Valid.{Below, busy, ItemsFit, Valid, Follows, EachFollows}
 use Rattle.tp_meaning.proofs.Places.{all-weaker}
@@ -43,12 +42,6 @@ stamped-valid w v = record {
   is_subst = v.is_subst;
   insertions = let i : w.insertion + busy w.processes ≤ w.stamp + 1 = v.insertions in omega arith;
 }
-
--- ---- worlds that are tried in order
-
-pub some-follow : (v : World) (ws : List World) → AllByRecursion (Follows v) ws → EachFollows v (some ws)
-some-follow v [] h = tt
-some-follow v (w ∷ ws) h = h
 
 -- ---- the end
 

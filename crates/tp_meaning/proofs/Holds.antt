@@ -1,4 +1,4 @@
--- What holds of each world of a state, and stays.
+-- What holds of each world of a state stays.
 use Rattle.std.proofs.Common.{◌≡◌, ℕ, ◌+◌, ◌≤◌, arith, Bool, true, false, cond, nat_lt, List, [], ◌∷◌}
 use Rattle.std.specs.List.{AllByRecursion}
 use Rattle.tp_meaning.specs.Search.{Searched, Step, Success, Dead, Raise, Commit, Branch}
@@ -8,25 +8,9 @@ use Rattle.tp_meaning.specs.Turn.{Gives}
 use Rattle.tp_meaning.specs.Valid.{Valid, Follows, EachFollows, ClauseFits}
 use Rattle.tp_meaning.specs.Clauses.{Base}
 use Rattle.tp_meaning.specs.Step.{step, searched}
+pub use Rattle.tp_meaning.specs.Holds.{EachHolds, ChoiceHolds, Holds, Stands}
 use Rattle.tp_meaning.proofs.Places.{all-weaker}
 use Rattle.tp_meaning.proofs.Rise.{stamps_rise}
-
--- each world that a step gives has P
-abbrev pub EachHolds : {W E : Type 0} → (W → Type 0) → Step W E → Type 0
-EachHolds P Success = Unit {0}
-EachHolds P (Dead c) = Unit {0}
-EachHolds P (Raise e) = Unit {0}
-EachHolds P (Commit c v) = P v
-EachHolds P (Branch v more) = P v × AllByRecursion P more
-
--- the world of a choice, and its untried worlds, have P
-abbrev pub ChoiceHolds : {W : Type 0} → (W → Type 0) → Choice W → Type 0
-ChoiceHolds P c = P c.world × AllByRecursion P c.untried
-
--- the current world and the choices
-pub record Holds {W : Type 0} (P : W → Type 0) (s : State W) : Type 0 where
-  pub world : P s.world
-  pub choices : AllByRecursion (ChoiceHolds P) s.choices
 
 choice-with : {W : Type 0} (P : W → Type 0) (d : ℕ) (w : W) (more : List W) (cs : List (Choice W)) → P w → AllByRecursion P more → AllByRecursion (ChoiceHolds P) cs → AllByRecursion (ChoiceHolds P) (with_choice d w more cs)
 choice-with P d w [] cs p a h = h
@@ -69,11 +53,6 @@ pub resumed-holds : {W : Type 0} (P : W → Type 0) (s : State W) → Holds P s 
 resumed-holds P s h = resumed_from-holds P s s.choices h.choices h
 
 -- ---- valid worlds
-
--- a valid world with at least so many variables
-pub record Stands (n : ℕ) (w : World) : Type 0 where
-  pub valid : Valid w
-  pub vars : n ≤ w.next
 
 follow-stand : (n : ℕ) (w : World) (g : Gives) → n ≤ w.next → EachFollows w g → EachHolds (Stands n) g
 follow-stand n w Success le h = tt

@@ -1,4 +1,4 @@
-pub mod Terms
+pub mod Replaced
 pub mod Unify
 pub mod Complete
 pub mod SearchRules
@@ -21,4 +21,7 @@ pub mod Seen
 mod Rows
 mod RowsOfParts
 mod RowsOfControl
+mod RowsOfArith
 pub mod OwnGoals
+mod OperationPlaces
+pub mod HeapLemmas

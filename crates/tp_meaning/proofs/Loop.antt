@@ -7,20 +7,8 @@ use Rattle.std.proofs.lemmas.Bool.Decides.{nat_tests}
 use Rattle.std.proofs.Math.Nat.{sub-zero}
 use Rattle.tp_meaning.specs.Search.{DeadCause, Failed, Deadlock, Late, Searched, Success, Dead, Raise, Commit, Branch, End, Fails, Stopped, Raised, Budget, Outcome, after, later, followed_by, dead_end, answer, capped_end, capped, goes_on, each, try}
 use Rattle.tp_meaning.specs.Machine.{Choice, closed_end, closed, Descends, with_choice, cut_from}
+pub use Rattle.tp_meaning.specs.Total.{either_of, with_rest, over, from_machine}
 use Rattle.tp_meaning.proofs.SearchRules.{try-zero, try-suc}
-
-abbrev pub either_of : {A : Type 0} → Bool → A → A → A
-either_of b x y = elim b [ true ↦ x | false ↦ y ]
-
--- what is found once an outcome of one of a choice's worlds is known
-
-abbrev pub with_rest : {W E : Type 0} → (W → ℕ → ℕ → Outcome W E) → ℕ → ℕ → Outcome W E → Choice W → Outcome W E
-with_rest f n k r c = either_of (goes_on c.stamp r.how) (followed_by r (each f c.untried c.stamp (n - r.steps) (k - length r.answers))) r
-
--- what is found in the end, over all choices, the newest first
-abbrev pub over : {W E : Type 0} → (W → ℕ → ℕ → Outcome W E) → ℕ → ℕ → Outcome W E → List (Choice W) → Outcome W E
-over f n k r [] = r
-over f n k r (c ∷ cs) = over f n k (with_rest f n k r c) cs
 
 later-later : {W : Type 0} → (m n : ℕ) → (xs : List (W × ℕ)) → map (later m) (map (later n) xs) ≡ map (later (m + n)) xs
 later-later m n [] = refl
@@ -158,10 +146,6 @@ over_commit f n k c s r (x ∷ xs) d = go (nat_lt x.stamp c) refl (over_commit f
     go true e h = alike_over f n k c r (capped_end c r.how) r.how (x ∷ xs) (let lt : x.stamp < c = ltb-true _ _ e in (lt, d.1)) (capped_alike c r.how)
     go false e h =
         ap (λ b. closed (over f n k (either_of b (followed_by (capped c r) (each f x.untried x.stamp (n - r.steps) (k - length r.answers))) (capped c r)) xs)) (capped_skips x.stamp c r.how e) ∙ h
-
--- what a machine finds, from a world and its choices on
-abbrev pub from_machine : {W E : Type 0} → Searched W E → W → List (Choice W) → ℕ → ℕ → Outcome W E
-from_machine x w cs n k = closed (over (try x) n k (try x w n k) cs)
 
 -- one step, which is no answer
 abbrev pub one : {W E : Type 0} → Outcome W E

@@ -15,10 +15,10 @@ use Rattle.tp_meaning.specs.Scheduler.{choose}
 use Rattle.tp_meaning.specs.Step.{goal_by, goal_step, item_step, step}
 use Rattle.tp_meaning.specs.Valid.{slots_of, due, is_running, Below, AllBelow, ItemsFit, EventFits, KindFits, Valid, Follows, EachFollows, ClauseFits, StampsRise}
 use Rattle.tp_meaning.proofs.Places.{all-weaker, all-append}
-use Rattle.tp_meaning.proofs.Keeps.{keeps, items-later, going-follows, body-below, term_of-below, control-follows}
+use Rattle.tp_meaning.proofs.Keeps.{keeps, items-later, going-follows, some-follow, body-below, term_of-below, control-follows}
 use Rattle.tp_meaning.proofs.Acts.{choose-follows}
 use Rattle.tp_meaning.proofs.Under.{Unifies, mgu-unifies, under-valid, replaced-below, all_replaced-below, below-more, bound-more}
-use Rattle.tp_meaning.proofs.Goes.{TurnFits, later, some-follow, ended-valid, await_again-follows}
+use Rattle.tp_meaning.proofs.Goes.{TurnFits, later, ended-valid, await_again-follows}
 
 -- ---- user goals
 

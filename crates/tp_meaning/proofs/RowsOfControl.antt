@@ -144,6 +144,44 @@ call_no_goal : counted [] (comp "call" (no_goal ∷ [])) 0 1000000 1 ≡ (2, (0,
 unfolding computed
 call_no_goal = refl
 
+-- add(X,Y,p(X,Y)).
+abbrev adds : Base
+adds = fact "add" (Var 0 ∷ Var 1 ∷ comp "p" (Var 0 ∷ Var 1 ∷ []) ∷ []) 2 ∷ []
+
+-- call(add(1), 2, R)
+abbrev call_more : Term
+call_more = comp "call" (comp "add" (nat 1 ∷ []) ∷ nat 2 ∷ Var 0 ∷ [])
+
+more_arguments : told (0 ∷ []) adds call_more 1 1000000 3 ≡ (5, pos 0, comp "p" (nat 1 ∷ nat 2 ∷ []) ∷ [], start_and_end) ∷ []
+unfolding computed
+more_arguments = refl
+
+call_integer : counted [] (comp "call" (nat 7 ∷ nat 1 ∷ [])) 0 1000000 1 ≡ (2, (0, 0, 0), Raised (raised (comp "type_error" (atom "callable" ∷ nat 7 ∷ []))) (pos 0))
+unfolding computed
+call_integer = refl
+
+-- ---- numbers in order
+
+-- between(1, 3, X)
+abbrev to_three : Term
+to_three = comp "between" (nat 1 ∷ nat 3 ∷ Var 0 ∷ [])
+
+counts : counted [] to_three 1 1000000 5 ≡ (10, (0, 0, 0), Fails None)
+unfolding computed
+counts = refl
+
+counts-told : told (0 ∷ []) [] to_three 1 1000000 5 ≡ (4, pos 0, nat 1 ∷ [], start_and_end) ∷ (7, pos 0, nat 2 ∷ [], start_and_end) ∷ (10, pos 0, nat 3 ∷ [], start_and_end) ∷ []
+unfolding computed
+counts-told = refl
+
+counts_none : counted [] (comp "between" (nat 3 ∷ nat 1 ∷ Var 0 ∷ [])) 1 1000000 5 ≡ (2, (1, 0, 0), Fails None)
+unfolding computed
+counts_none = refl
+
+counts_from_no_integer : counted [] (comp "between" (atom "a" ∷ Var 0 ∷ Var 1 ∷ [])) 2 1000000 1 ≡ (2, (0, 0, 0), Raised (raised (comp "type_error" (atom "integer" ∷ atom "a" ∷ []))) (pos 0))
+unfolding computed
+counts_from_no_integer = refl
+
 -- ---- repeat
 
 repeated : counted [] (atom "repeat") 0 1000000 3 ≡ (10, (0, 0, 0), Stopped)

@@ -3,6 +3,7 @@ use Rattle.std.proofs.Common.{◌≡◌, ℕ, ◌+◌, ◌<◌, ◌≤◌, Bool,
 use mathlib.Core.Path.{subst}
 use Rattle.std.specs.List.{AllByRecursion}
 use Rattle.tp_meaning.specs.Search.{Searched, Step, Success, Dead, Raise, Commit, Branch}
+pub use Rattle.tp_meaning.specs.Machine.{HasStack, HasStackUpTo, IsLast, IsRewound}
 use Rattle.tp_meaning.specs.Machine.{Choice, State, stepped_by, stepped, rewound, rewound_to, resumed, resumed_by, resumed_from, back, with_choice, Descends, cut_from, IsStack, Rises}
 
 -- choices below a stamp are below a greater one
@@ -33,22 +34,6 @@ stack_cut x c s t (y ∷ ys) le h = go (nat_lt y.stamp c) (stack_cut x c y.stamp
     go false k = k
 
 -- ---- states
-
--- choices below the stamp of the current world
-abbrev pub HasStack : {W E : Type 0} → Searched W E → State W → Type 0
-HasStack x s = IsStack x (x.stamp s.world) s.choices
-
--- the current world is that of the last choice
-abbrev pub IsLast : {W : Type 0} → W → List (Choice W) → Type 0
-IsLast w [] = ⊥
-IsLast w (c ∷ cs) = w ≡ c.world
-
-abbrev pub IsRewound : {W : Type 0} → State W → Type 0
-IsRewound s = IsLast s.world s.choices
-
--- choices up to the stamp of the current world, as rewinding leaves them
-abbrev pub HasStackUpTo : {W E : Type 0} → Searched W E → State W → Type 0
-HasStackUpTo x s = IsStack x (x.stamp s.world + 1) s.choices
 
 pub stepped_by-stack : {W E : Type 0} → (x : Searched W E) → (g : Step W E) → (s : State W) → Rises x s.world g → HasStack x s → HasStack x (stepped_by x g s).1
 stepped_by-stack x Success s r h = h

@@ -8,11 +8,8 @@ use borrow.Author.Tests.{ltb-true, ltb-false}
 use Rattle.tp_meaning.specs.Search.{DeadCause, Failed, Deadlock, Late, Searched, Step, Success, Dead, Raise, Commit, Branch, Fails, Stopped, Raised, Budget, Outcome, try, followed_by, answer, dead_end}
 use Rattle.tp_meaning.specs.Machine.{Choice, State, Machine, state_of, machine_of, started, Turn, GoesOn, Ends, Stepped, stepped, turned, turn_by, back_to, resumed_by, with_choice, cut_from, Descends, closed, ended, answer_more, dead_more, one_more, IsStack, Rises}
 use Rattle.tp_meaning.proofs.Loop.{later-zero, from_machine, one, followed_assoc, same_outcome, machine-zero, machine-raise, machine-branch, machine-commit, machine-dead, machine-dead_last, machine-answer, machine-answer_none, machine-answer_last, dead_end_fails, answer_fails}
+pub use Rattle.tp_meaning.specs.Total.{total}
 use Rattle.tp_meaning.proofs.Stack.{stack_descends, stack_cut, stack_with}
-
--- what was found so far, and what the machine finds with n more steps
-abbrev pub total : {W E : Type 0} → Searched W E → Machine W E → ℕ → ℕ → Outcome W E
-total x m n k = followed_by m.tally (from_machine x m.world m.choices n (k - length m.tally.answers))
 
 -- one step was counted, and at most one dead end
 pub record Counted {W E : Type 0} (t u : Outcome W E) : Type 0 where

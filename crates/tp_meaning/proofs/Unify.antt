@@ -4,7 +4,7 @@ use Rattle.std.specs.List.{AllByRecursion}
 use Rattle.std.proofs.lemmas.Bool.{eqb-true, eq-eqb, eqb-false, ltb-true, ltb-false}
 use Rattle.tp_terms.specs.Term.{Term, Terms, Var, Int, Atom, Comp, NoMore, More, replaced, all_replaced, occurs, occurs_in, term_eq, names_eq, count_of, term_size}
 use Rattle.tp_meaning.specs.Subst.{Idem, IsSubst, IsSorted, Subst, Equations, Next, mgu, value_at, apply, extended, put, for_one, bound_to, bind, solve_pair, walk, rounds, size_under, pairs_of}
-use Rattle.tp_meaning.proofs.Terms.{replaced-replaced, replaced-same, or_true, and_both, term_eq-true}
+use Rattle.tp_meaning.proofs.Replaced.{replaced-replaced, replaced-same, or_true, and_both, term_eq-true}
 use Rattle.std.proofs.lemmas.Slice.Eq.{bytes_eq-Decides}
 
 -- f is a solution of the equations es

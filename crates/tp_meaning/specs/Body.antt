@@ -16,7 +16,8 @@ abbrev pub body : Term → Option Term
 body (Var v) = Some (comp "call" (Var v ∷ []))
 body (Int n) = None
 body (Atom a) = Some (Atom a)
-body (Comp f (More a (More b NoMore))) = if joins_goals f then pair_body f (body a) (body b) else Some (Comp f (More a (More b NoMore)))
+body (Comp f (More a (More b NoMore))) =
+    if joins_goals f then pair_body f (body a) (body b) else Some (Comp f (More a (More b NoMore)))
 body (Comp f ts) = Some (Comp f ts)
 
 abbrev pub entered_as : Term → Option Term → Checked Term

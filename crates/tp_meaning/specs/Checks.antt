@@ -67,6 +67,12 @@ abbrev pub integer : Term → Checked ℤ
 integer (Int z) = Ok z
 integer t = Err (type_error "integer" t)
 
+-- an integer, which is no unbound variable
+abbrev pub integer_given : Term → Checked ℤ
+integer_given t = do
+  bound t
+  integer t
+
 -- the name of an atom
 abbrev pub name_in : Term → Checked Name
 name_in (Atom a) = Ok a

@@ -21,7 +21,9 @@ Base = List Clause
 -- the clauses of a name and a number of arguments
 abbrev pub predicate : Base → Name → ℕ → Base
 predicate [] f n = []
-predicate (c ∷ cs) f n = if names_eq f c.name && nat_eq n (count_of c.args) then c ∷ predicate cs f n else predicate cs f n
+predicate (c ∷ cs) f n =
+    if names_eq f c.name && nat_eq n (count_of c.args) then c ∷ predicate cs f n
+    else predicate cs f n
 
 -- variables numbered on from the next one
 abbrev pub renamed : ℕ → Term → Term
@@ -40,7 +42,11 @@ by_clause t c = record (going t (body_items c t.world ++ t.rest)) { next = t.wor
 
 -- the world of a clause whose head has a unifier with the goal
 abbrev pub try_clause : Turn → Term → Clause → Option World
-try_clause t g c = elim (mgu t.world.subst g (renamed t.world.next (head_of c))) [ None ↦ None | Some u ↦ Some (world_under u (by_clause t c)) ]
+try_clause t g c =
+    elim (mgu t.world.subst g (renamed t.world.next (head_of c))) [
+      | None ↦ None
+      | Some u ↦ Some (world_under u (by_clause t c))
+    ]
 
 -- the worlds of the clauses whose head has a unifier with the goal
 abbrev pub worlds_of : Turn → Term → Base → List World

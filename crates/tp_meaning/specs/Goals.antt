@@ -1,4 +1,5 @@
--- The goals that the language has of its own: control goals, process goals and built-ins. No clause may define them.
+-- The goals that the language has of its own: control goals, process goals and built-ins. No clause
+-- may define them.
 use Rattle.std.specs.Prelude.{ℕ, Bool, nat_le, ◌&&◌, List, [], ◌∷◌, Option, Some, None, is_some, if◌then◌else◌, codes}
 use Prim.Native.String.{String}
 use Rattle.tp_terms.specs.Term.{Name, names_eq}
@@ -83,7 +84,8 @@ found_in [] name count = None
 found_in (r ∷ rows) name count =
     if names_eq name r.name && has_count r count then Some r.kind else found_in rows name count
 
--- the kind of goals with the fewest and the most arguments that they have, where this number of arguments fits
+-- the kind of goals with the fewest and the most arguments that they have, where this number of
+-- arguments fits
 abbrev pub kind_of_row : ℕ × ℕ × GoalKind → ℕ → Option GoalKind
 kind_of_row row count = if nat_le row.0 count && nat_le count row.1 then Some row.2 else None
 

@@ -3,6 +3,9 @@ pub mod Subst
 pub mod Unifier
 pub mod Goals
 pub mod Checks
+pub mod Arith
+pub mod Copy
+pub mod Heap
 pub mod Body
 pub mod World
 pub mod Search
@@ -16,3 +19,5 @@ pub mod Clauses
 pub mod Step
 pub mod Reserved
 pub mod Valid
+pub mod Holds
+pub mod Total

@@ -37,7 +37,8 @@ stepped_by x search.Success s = (Success, s)
 stepped_by x (search.Dead c) s = (Dead c, s)
 stepped_by x (search.Raise e) s = (Raised e, s)
 stepped_by x (search.Commit c v) s = (Went, record { world = v; choices = cut_from c s.choices })
-stepped_by x (search.Branch v more) s = (Went, record { world = v; choices = with_choice (x.stamp s.world) s.world more s.choices })
+stepped_by x (search.Branch v more) s =
+    (Went, record { world = v; choices = with_choice (x.stamp s.world) s.world more s.choices })
 
 abbrev pub stepped : {W E : Type 0} → Searched W E → State W → Stepped E × State W
 stepped x s = stepped_by x (x.step s.world) s
@@ -50,8 +51,8 @@ rewound_to s (c ∷ cs) = (true, record s { world = c.world })
 abbrev pub rewound : {W : Type 0} → State W → Bool × State W
 rewound s = rewound_to s s.choices
 
--- The first untried world of the last choice becomes the current one. The choice keeps the rest, and is gone where
--- there is no rest.
+-- The first untried world of the last choice becomes the current one. The choice keeps the rest,
+-- and is gone where there is no rest.
 abbrev pub resumed_by : {W : Type 0} → State W → Choice W → List W → List (Choice W) → State W
 resumed_by s c [] cs = record s { choices = cs }
 resumed_by s c (v ∷ more) cs = record { world = v; choices = with_choice c.stamp c.world more cs }
@@ -105,12 +106,15 @@ ended how t = record t { how = how }
 
 -- back to the last choice, and an end where there is none
 abbrev pub back_to : {W E : Type 0} → Outcome W E → State W → Turn W E
-back_to t s = elim (back s) [ None ↦ Ends (ended (Fails None) t) | Some r ↦ GoesOn (machine_of r t) ]
+back_to t s =
+    elim (back s) [ None ↦ Ends (ended (Fails None) t) | Some r ↦ GoesOn (machine_of r t) ]
 
 -- what is done after a step with this answer, k answers being wanted
 abbrev pub turned : {W E : Type 0} → Searched W E → ℕ → Stepped E → State W → Outcome W E → Turn W E
 turned x k Went s t = GoesOn (machine_of s (one_more t))
-turned x k Success s t = if nat_lt (length t.answers + 1) k then back_to (answer_more s.world t) s else Ends (ended Stopped (answer_more s.world t))
+turned x k Success s t =
+    if nat_lt (length t.answers + 1) k then back_to (answer_more s.world t) s
+    else Ends (ended Stopped (answer_more s.world t))
 turned x k (Dead c) s t = back_to (dead_more c t) s
 turned x k (Raised e) s t = Ends (ended (search.Raised e s.world) (one_more t))
 
@@ -132,13 +136,30 @@ abbrev pub IsStack : {W E : Type 0} → Searched W E → ℕ → List (Choice W)
 IsStack x s [] = Unit {0}
 IsStack x s (c ∷ cs) = IsChoice x s c × IsStack x c.stamp cs
 
+-- choices below the stamp of the current world
+abbrev pub HasStack : {W E : Type 0} → Searched W E → State W → Type 0
+HasStack x s = IsStack x (x.stamp s.world) s.choices
+
+-- the current world is that of the last choice
+abbrev pub IsLast : {W : Type 0} → W → List (Choice W) → Type 0
+IsLast w [] = ⊥
+IsLast w (c ∷ cs) = w ≡ c.world
+
+abbrev pub IsRewound : {W : Type 0} → State W → Type 0
+IsRewound s = IsLast s.world s.choices
+
+-- choices up to the stamp of the current world, as rewinding leaves them
+abbrev pub HasStackUpTo : {W E : Type 0} → Searched W E → State W → Type 0
+HasStackUpTo x s = IsStack x (x.stamp s.world + 1) s.choices
+
 -- each world that a step gives has the next stamp
 abbrev pub Rises : {W E : Type 0} → Searched W E → W → Step W E → Type 0
 Rises x w search.Success = Unit {0}
 Rises x w (search.Dead c) = Unit {0}
 Rises x w (search.Raise e) = Unit {0}
 Rises x w (search.Commit c v) = x.stamp v ≡ x.stamp w + 1
-Rises x w (search.Branch v more) = (x.stamp v ≡ x.stamp w + 1) × AllByRecursion (λ u. x.stamp u ≡ x.stamp w + 1) more
+Rises x w (search.Branch v more) =
+    (x.stamp v ≡ x.stamp w + 1) × AllByRecursion (λ u. x.stamp u ≡ x.stamp w + 1) more
 
 -- ---- whole searches
 

@@ -9,8 +9,8 @@ use Rattle.tp_terms.specs.Term.{Name, Term, Terms, Var, Int, Atom, Comp, NoMore,
 abbrev pub name_cmp : Name → Name → Ordering
 name_cmp = slice_cmp nat_cmp
 
--- Variables by number, then integers by value, then atoms by name, then compounds by number of arguments, then by
--- name, then by arguments from the left.
+-- Variables by number, then integers by value, then atoms by name, then compounds by number of
+-- arguments, then by name, then by arguments from the left.
 abbrev mutual
   pub term_cmp : Term → Term → Ordering
   term_cmp (Var v) (Var w) = nat_cmp v w
@@ -22,7 +22,9 @@ abbrev mutual
   term_cmp (Atom a) (Atom b) = name_cmp a b
   term_cmp (Atom a) u = Less
   term_cmp t (Atom b) = Greater
-  term_cmp (Comp f ts) (Comp g us) = ordering_then (nat_cmp (count_of ts) (count_of us)) (ordering_then (name_cmp f g) (terms_cmp ts us))
+  term_cmp (Comp f ts) (Comp g us) =
+      ordering_then (nat_cmp (count_of ts) (count_of us))
+      (ordering_then (name_cmp f g) (terms_cmp ts us))
 
   pub terms_cmp : Terms → Terms → Ordering
   terms_cmp NoMore NoMore = Equal

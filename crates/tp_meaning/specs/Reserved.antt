@@ -6,8 +6,8 @@ use Rattle.tp_meaning.specs.Turn.{Turn}
 use Rattle.tp_meaning.specs.Clauses.{Base}
 use Rattle.tp_meaning.specs.Step.{goal_step}
 
--- The law of reserved names: a name is reserved for a number of arguments exactly where no clause of any model changes
--- what a step of such a goal gives.
+-- The law of reserved names: a name is reserved for a number of arguments exactly where no clause
+-- of any model changes what a step of such a goal gives.
 abbrev pub ReservedAreOwn : Type 0
 ReservedAreOwn =
     (name : Name) (args : Terms) →

@@ -17,7 +17,8 @@ pub record Searched (W E : Type 0) : Type 0 where
   pub step : W → Step W E
   pub stamp : W → ℕ
 
--- how a search ends; a failure may carry a stamp, and an error comes with the world whose step raised it
+-- how a search ends; a failure may carry a stamp, and an error comes with the world whose step
+-- raised it
 pub data End (W E : Type 0) : Type 0 where
   Fails : Option ℕ → End W E
   Stopped : End W E
@@ -58,13 +59,25 @@ with_step r = followed_by (after 1 (Fails None)) r
 
 -- one step to a dead end
 abbrev pub dead_end : {W E : Type 0} → DeadCause → Outcome W E
-dead_end Failed = record { answers = []; steps = 1; failed = 1; deadlock = 0; late = 0; how = Fails None }
-dead_end Deadlock = record { answers = []; steps = 1; failed = 0; deadlock = 1; late = 0; how = Fails None }
-dead_end Late = record { answers = []; steps = 1; failed = 0; deadlock = 0; late = 1; how = Fails None }
+dead_end Failed =
+    record { answers = []; steps = 1; failed = 1; deadlock = 0; late = 0; how = Fails None }
+dead_end Deadlock =
+    record { answers = []; steps = 1; failed = 0; deadlock = 1; late = 0; how = Fails None }
+dead_end Late =
+    record { answers = []; steps = 1; failed = 0; deadlock = 0; late = 1; how = Fails None }
 
 -- the answer w; the last one that is wanted ends the search
 abbrev pub answer : {W E : Type 0} → W → ℕ → Outcome W E
-answer w wanted = record { answers = (w, 1) ∷ []; steps = 1; failed = 0; deadlock = 0; late = 0; how = if nat_eq wanted 1 then Stopped else Fails None }
+answer w wanted =
+    record {
+      answers = (w, 1) ∷ [];
+      steps = 1;
+      failed = 0;
+      deadlock = 0;
+      late = 0;
+      how =
+          if nat_eq wanted 1 then Stopped else Fails None;
+    }
 
 -- the lesser of two stamps, a missing one counting as greater
 abbrev pub lesser : ℕ → Option ℕ → ℕ
@@ -100,15 +113,16 @@ each search (v ∷ more) s n k =
     ]
 
 -- what a step leads to, with n more steps
-abbrev pub goes : {W E : Type 0} → (W → ℕ → ℕ → Outcome W E) → Searched W E → W → Step W E → ℕ → ℕ → Outcome W E
+abbrev pub goes : {W E : Type 0} → (W → ℕ → ℕ → Outcome W E) → Searched W E → W → Step W E → ℕ →
+    ℕ → Outcome W E
 goes search x w Success n k = answer w k
 goes search x w (Dead c) n k = dead_end c
 goes search x w (Raise e) n k = after 1 (Raised e w)
 goes search x w (Commit c v) n k = capped c (with_step (search v n k))
 goes search x w (Branch v more) n k = with_step (each search (v ∷ more) (x.stamp w) n k)
 
--- The search of a world with n steps left and k answers wanted. The first number bounds how deep the definition
--- goes; any bound from n on gives the same.
+-- The search of a world with n steps left and k answers wanted. The first number bounds how deep
+-- the definition goes; any bound from n on gives the same.
 unfoldable pub try_within : {W E : Type 0} → Searched W E → ℕ → W → ℕ → ℕ → Outcome W E
 try_within x d w zero k = after 0 Budget
 try_within x zero w (suc n) k = after 0 Budget

@@ -33,19 +33,23 @@ ended w p = let_go p (with_event p End (with_status p Ended (stamped w)))
 -- what the first item of the running process gives
 abbrev pub item_step : Base → World → ℕ → List Item → Gives
 item_step base w p [] = one (ended w p)
-item_step base w p (Goal g b ∷ rest) = raised_at w p (goal_step base (record { world = w; process = p; rest = rest }) b g)
-item_step base w p (item.Commit c ∷ rest) = Commit c (going (record { world = w; process = p; rest = rest }) rest)
+item_step base w p (Goal g b ∷ rest) =
+    raised_at w p (goal_step base (record { world = w; process = p; rest = rest }) b g)
+item_step base w p (item.Commit c ∷ rest) =
+    Commit c (going (record { world = w; process = p; rest = rest }) rest)
 item_step base w p (Retry g ∷ rest) = await_again (record { world = w; process = p; rest = rest }) g
 
--- One step: where no process runs, the scheduler acts, and else the running process takes its first item.
+-- One step: where no process runs, the scheduler acts, and else the running process takes its first
+-- item.
 unfoldable pub step : Base → World → Gives
-step base w = elim (w.running) [ None ↦ choose w | Some p ↦ item_step base w p (items_at w.processes p) ]
+step base w =
+    elim (w.running) [ None ↦ choose w | Some p ↦ item_step base w p (items_at w.processes p) ]
 
 -- the search of a model's worlds
 abbrev pub searched : Base → Searched World Term
 searched base = record { step = step base; stamp = λ w. w.stamp }
 
--- A goal with so many variables, searched with n steps for k answers. Its end is called no more where it fails, with a
--- stamp or with none.
+-- A goal with so many variables, searched with n steps for k answers. Its end is called no more
+-- where it fails, with a stamp or with none.
 unfoldable pub search : Base → Term → ℕ → ℕ → ℕ → Outcome World Term
 search base goal vars n k = try (searched base) (start goal vars) n k

@@ -54,13 +54,15 @@ bind next v t es s = if occurs v t then None else next es (extended s v t)
 -- one equation whose sides are seen under the map
 abbrev pub solve_pair : Next → Next → Term → Term → Equations → Subst → Option Subst
 solve_pair same next (Var v) (Var w) es s =
-    if nat_eq v w then same es s else if nat_lt v w then next es (extended s w (Var v)) else next es (extended s v (Var w))
+    if nat_eq v w then same es s else if nat_lt v w then next es (extended s w (Var v))
+    else next es (extended s v (Var w))
 solve_pair same next (Var v) t es s = bind next v t es s
 solve_pair same next t (Var w) es s = bind next w t es s
 solve_pair same next (Int m) (Int n) es s = if term_eq (Int m) (Int n) then same es s else None
 solve_pair same next (Atom a) (Atom b) es s = if names_eq a b then same es s else None
 solve_pair same next (Comp f ts) (Comp g us) es s =
-    if names_eq f g && nat_eq (count_of ts) (count_of us) then same (pairs_of ts us ++ es) s else None
+    if names_eq f g && nat_eq (count_of ts) (count_of us) then same (pairs_of ts us ++ es) s
+    else None
 solve_pair same next _ _ es s = None
 
 -- The equations in order. Where no variable is replaced their size falls.

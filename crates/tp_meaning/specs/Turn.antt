@@ -1,8 +1,9 @@
 -- The running process at its first item, and what a step gives there.
-use Rattle.std.specs.Prelude.{ℕ, List, [], ◌∷◌, Ok, Err}
+use Rattle.std.specs.Prelude.{ℕ, List, [], ◌∷◌, Some, None, Ok, Err}
 use Rattle.tp_terms.specs.Term.{Term}
 use Rattle.tp_meaning.specs.Checks.{Checked, error}
-use Rattle.tp_meaning.specs.World.{World, Item, with_items, stamped, name_at}
+use Rattle.tp_meaning.specs.Subst.{mgu}
+use Rattle.tp_meaning.specs.World.{World, Item, with_items, stamped, name_at, world_under}
 use Rattle.tp_meaning.specs.Search.{Step, Failed, Dead, Raise, Branch}
 
 -- what a step of a world gives
@@ -18,6 +19,13 @@ pub record Turn : Type 0 where
 -- the world in which the running process has these items
 abbrev pub going : Turn → List Item → World
 going t items = with_items t.process items (stamped t.world)
+
+-- the world that goes on under the most general unifier of two terms, where there is one
+abbrev pub unified : Turn → Term → Term → List World
+unified t x y = elim (mgu t.world.subst x y) [
+  | None ↦ []
+  | Some u ↦ world_under u (going t t.rest) ∷ []
+]
 
 -- one world, and a first and a second
 abbrev pub one : World → Gives

@@ -9,17 +9,20 @@ pub record Solves (s : Subst) (a b : Term) (u : Subst) : Type 0 where
   pub over : (v : ℕ) → apply u (Var v) ≡ apply u (apply s (Var v))
   pub same : apply u a ≡ apply u b
 
--- Every other solution is u and then itself. What s binds is bound, and of the rest only variables of the two
--- terms. A class of unbound variables goes to its least number.
+-- Every other solution is u and then itself. What s binds is bound, and of the rest only variables
+-- of the two terms. A class of unbound variables goes to its least number.
 pub record Mgu (s : Subst) (a b : Term) (u : Subst) : Type 0 where
   pub solves : Solves s a b u
-  pub most_general : (u2 : Subst) → Solves s a b u2 → (v : ℕ) → apply u2 (Var v) ≡ apply u2 (apply u (Var v))
+  pub most_general : (u2 : Subst) → Solves s a b u2 → (v : ℕ) →
+      apply u2 (Var v) ≡ apply u2 (apply u (Var v))
   pub binds : (v : ℕ) → is_some (bound_to s v) ≡ true → is_some (bound_to u v) ≡ true
-  pub binds_only : (v : ℕ) → is_some (bound_to u v) ≡ true → is_some (bound_to s v) ≡ false → (occurs v (apply s a) || occurs v (apply s b)) ≡ true
-  pub least : (x v y : ℕ) → apply u (Var x) ≡ Var v → bound_to s y ≡ None → apply u (Var y) ≡ Var v → v ≤ y
+  pub binds_only : (v : ℕ) → is_some (bound_to u v) ≡ true → is_some (bound_to s v) ≡ false →
+      (occurs v (apply s a) || occurs v (apply s b)) ≡ true
+  pub least : (x v y : ℕ) → apply u (Var x) ≡ Var v → bound_to s y ≡ None →
+      apply u (Var y) ≡ Var v → v ≤ y
 
--- The law of unifiers: what solving an equation gives is its most general unifier, of which there is only one, and
--- it gives none exactly where nothing solves.
+-- The law of unifiers: what solving an equation gives is its most general unifier, of which there
+-- is only one, and it gives none exactly where nothing solves.
 pub record OneUnifier (s : Subst) (a b : Term) : Type 0 where
   pub unifier : (u : Subst) → (mgu s a b ≡ Some u) ↔ Mgu s a b u
   pub none : (mgu s a b ≡ None) ↔ ((u : Subst) → Solves s a b u → ⊥)

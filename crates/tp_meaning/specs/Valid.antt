@@ -34,7 +34,8 @@ ItemsFit n d = AllByRecursion (ItemFits n d)
 
 -- an entry of one of so many processes, not before a time, with a number below another
 abbrev pub SlotFits : ℕ → ℤ → ℕ → Slot → Type 0
-SlotFits count clock insertion e = (e.process < count) × (int_le clock e.time ≡ true) × (e.number < insertion)
+SlotFits count clock insertion e =
+    (e.process < count) × (int_le clock e.time ≡ true) × (e.number < insertion)
 
 -- a slot that goes before others
 abbrev pub IsFirst : Slot → List Slot → Type 0
@@ -106,7 +107,8 @@ pub record Valid (w : World) : Type 0 where
   -- names are distinct, and there is a box for each process
   pub distinct : AreDistinct (map (λ q. q.name) w.processes)
   pub box_each : length w.boxes ≡ length w.processes
-  -- each entry is of a process in the list, not before the clock, and numbered below the next insertion number
+  -- each entry is of a process in the list, not before the clock, and numbered below the next
+  -- insertion number
   pub entries : AllByRecursion (SlotFits (length w.processes) w.clock w.insertion) w.calendar
   pub in_order : InOrder w.calendar
   -- a scheduled process has exactly one entry, and no other process has one
@@ -145,6 +147,9 @@ pub record ClauseFits (c : Clause) : Type 0 where
   pub head : AllBelow c.vars c.args
   pub body : IfSome c.body (Below c.vars)
 
--- The law of a step: each world of a step of a valid world is valid, with the stamp plus 1 and no fewer variables.
+-- The law of a step: each world of a step of a valid world is valid, with the stamp plus 1 and no
+-- fewer variables.
 abbrev pub StampsRise : Type 0
-StampsRise = (base : Base) (w : World) → AllByRecursion ClauseFits base → Valid w → EachFollows w (step base w)
+StampsRise =
+    (base : Base) (w : World) → AllByRecursion ClauseFits base → Valid w →
+    EachFollows w (step base w)

@@ -9,8 +9,8 @@ use Rattle.tp_terms.specs.Term.{Name, Term, names_eq}
 use Rattle.tp_meaning.specs.Subst.{Subst, apply}
 use Rattle.tp_meaning.specs.Body.{body}
 
--- What a process does next: a goal with its barrier stamp, a commit to a stamp, or another try of a condition that it
--- waits for.
+-- What a process does next: a goal with its barrier stamp, a commit to a stamp, or another try of a
+-- condition that it waits for.
 pub data Item : Type 0 where
   Goal : (goal : Term) (barrier : ℕ) → Item
   Commit : (stamp : ℕ) → Item
@@ -44,8 +44,8 @@ pub record Event : Type 0 where
   pub process : ℕ
   pub kind : EventKind
 
--- The parts of a world. Its terms are held under its substitution, a process's number is its place in the list, and
--- there is one box of messages for each process.
+-- The parts of a world. Its terms are held under its substitution, a process's number is its place
+-- in the list, and there is one box of messages for each process.
 pub record World : Type 0 where
   pub subst : Subst
   pub next : ℕ
@@ -128,7 +128,8 @@ with_box p f w = record w { boxes = at_place p f w.boxes }
 
 -- an event added that a process makes now
 abbrev pub with_event : ℕ → EventKind → World → World
-with_event p k w = record w { history = w.history ++ record { time = w.clock; process = p; kind = k } ∷ [] }
+with_event p k w =
+    record w { history = w.history ++ record { time = w.clock; process = p; kind = k } ∷ [] }
 
 -- entries stand in order of time, then number
 abbrev pub goes_before : Slot → Slot → Bool
@@ -148,7 +149,14 @@ with_slot p time w = record w {
 -- ---- letting go
 
 abbrev pub mark : Process → Process
-mark q = elim (q.status) [ Scheduled ↦ q | Running ↦ q | AwaitsMail ↦ q | Ended ↦ q | Parked m ↦ record q { status = Parked true } ]
+mark q = elim
+    (q.status) [
+      | Scheduled ↦ q
+      | Running ↦ q
+      | AwaitsMail ↦ q
+      | Ended ↦ q
+      | Parked m ↦ record q { status = Parked true }
+    ]
 
 -- each process that is parked is marked, but for one
 abbrev pub mark_others : ℕ → List Process → List Process
@@ -163,7 +171,9 @@ let_go p w = record w { running = None; processes = mark_others p w.processes }
 
 abbrev pub number_of : Name → List Process → Option ℕ
 number_of n [] = None
-number_of n (q ∷ qs) = if names_eq n q.name then Some 0 else elim (number_of n qs) [ None ↦ None | Some p ↦ Some (suc p) ]
+number_of n (q ∷ qs) =
+    if names_eq n q.name then Some 0
+    else elim (number_of n qs) [ None ↦ None | Some p ↦ Some (suc p) ]
 
 abbrev pub name_at : List Process → ℕ → Name
 name_at qs p = elim (slice_get qs p) [ None ↦ [] | Some q ↦ q.name ]

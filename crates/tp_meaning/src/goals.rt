@@ -129,8 +129,8 @@ pub enum GoalKind {
     BuiltIn(BuiltId),
 }
 
-/// The fewest and the most arguments of the goals of each name, and their kind. The names stand side by side in every
-/// table of names, `true` first.
+/// The fewest and the most arguments of the goals of each name, and their kind. The names stand
+/// side by side in every table of names, `true` first.
 const GOALS: [(u8, u8, GoalKind); 47] = [
     (0, 0, GoalKind::Control(ControlGoal::True)),
     (0, 0, GoalKind::Control(ControlGoal::Fail)),
@@ -201,8 +201,8 @@ fn row_at(place: usize) -> (u8, u8, GoalKind)
     GOALS[place]
 }
 
-/// The kind of the goals of a name and a number of arguments, where the language has them of its own; `None` where
-/// clauses define them. Takes the same time for every name.
+/// The kind of the goals of a name and a number of arguments, where the language has them of its
+/// own; `None` where clauses define them. Takes the same time for every name.
 pub fn goal_kind(name: AtomId, count: u8) -> Option<GoalKind>
     ensures { (names : List Name) → IsTable names → name.at < length names →
         result ≡ goal_kind (name_at names name.at) count }

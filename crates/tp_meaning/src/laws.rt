@@ -15,14 +15,14 @@ pub fn stamps_rise()
     ensures { StampsRise }
 {}
 
-/// What solving an equation gives is its most general unifier, of which there is only one, and it gives none exactly
-/// where nothing solves.
+/// What solving an equation gives is its most general unifier, of which there is only one, and it
+/// gives none exactly where nothing solves.
 pub fn one_unifier()
     ensures { MguIsTheOneUnifier }
 {}
 
-/// A name is reserved for a number of arguments, so that no clause may define it, exactly where no clause changes what
-/// a step of such a goal gives.
+/// A name is reserved for a number of arguments, so that no clause may define it, exactly where no
+/// clause changes what a step of such a goal gives.
 pub fn reserved_names()
     ensures { ReservedAreOwn }
 {}

@@ -1,10 +1,16 @@
 //! The meaning of a model: worlds, a step of one, and the search.
 #![tactic(auto)]
 
+mod compounds;
+mod evaluables;
 mod goals;
+mod heap;
 pub mod laws;
 
+pub use compounds::{compound_of_one, compound_of_two};
+pub use evaluables::{BinaryOperation, UnaryOperation, operations};
 pub use goals::{BuiltId, ControlGoal, GoalKind, ProcessGoal, goal_kind};
+pub use heap::Terms;
 
 /// Why a world is a dead end.
 #[derive(Clone, Copy, Debug, PartialEq, Eq)]

@@ -15,6 +15,7 @@ fewest (kind.Control control.IfThen) = 2
 fewest (kind.Control control.NotProvable) = 1
 fewest (kind.Control control.Call) = 1
 fewest (kind.Control control.Once) = 1
+fewest (kind.Control control.Between) = 3
 fewest k = 0
 
 both : (a b : Bool) → (a && b) ≡ true → (a ≡ true) × (b ≡ true)

@@ -1,0 +1,6 @@
+mod Bounds
+mod Divisions
+mod Shifts
+mod Steps
+mod KindLemmas
+mod Comparisons

@@ -1,0 +1,3 @@
+pub mod Errors
+pub mod Work
+pub mod Values

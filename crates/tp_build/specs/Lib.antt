@@ -1,0 +1,5 @@
+pub mod Answers
+pub mod Errors
+pub mod Rows
+pub mod Functor
+pub mod Builtin
