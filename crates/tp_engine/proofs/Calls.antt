@@ -10,16 +10,16 @@ use Rattle.tp_parse.specs.declared.read.ReadTerm.{ReadTerm}
 use Rattle.tp_clauses.specs.Contents.{Contents}
 use Rattle.tp_engine.specs.declared.answers.AnswerFault.{AnswerFault}
 use Rattle.tp_engine.specs.declared.answers.AnswerFault.TheVariants as why
-use Rattle.tp_engine.specs.declared.machine.Machine.{Machine}
+use Rattle.tp_machine.specs.declared.machine.Machine.{Machine}
 use Rattle.tp_engine.specs.declared.phase.Phase.{Phase}
 use Rattle.tp_engine.specs.declared.phase.Phase.TheVariants as phase
-use Rattle.tp_engine.specs.declared.phase.Stepped.{Stepped}
-use Rattle.tp_engine.specs.Machine.{IsMachine, IsBack, IsProgram, SameProgram, Rewinds, base_in, open_in, state_in}
+use Rattle.tp_machine.specs.declared.stepped.Stepped.{Stepped}
+use Rattle.tp_machine.specs.Machine.{IsMachine, IsBack, IsProgram, SameProgram, Rewinds, base_in, open_in, state_in}
 use Rattle.tp_engine.specs.Phases.{Keeps, phase_after}
 use Rattle.tp_state.specs.Stands.{PlainStands, ProcStands}
 use Rattle.tp_state.specs.State.{plain_of}
 use Rattle.tp_engine.specs.Told.{MayRewind, IsWhole, IsSound, IsSame, IsCounted, IsUncounted, Told, number_after, seen_of, told_of}
-use Rattle.tp_engine.proofs.Later.{base_stays}
+use Rattle.tp_machine.proofs.Later.{base_stays}
 
 -- what holds holds after an error
 pub on_err : {T E P : Type 0} (r : Result T E) → P → OnErr r P

@@ -16,7 +16,7 @@ use Rattle.tp_parse.specs.Table.{Table}
 use Rattle.tp_parse.specs.Tells.{Tells, named_of}
 use Rattle.tp_parse.specs.Texts.{Found, Refusal, goal_of, goal_in, goal_by, found_by, last_byte}
 use Rattle.tp_parse.specs.declared.read.ReadTerm.{ReadTerm}
-use Rattle.tp_engine.specs.Program.{GoalFits}
+use Rattle.tp_machine.specs.Program.{GoalFits}
 
 -- ---- numbers
 

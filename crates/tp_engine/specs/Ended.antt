@@ -5,7 +5,7 @@ use Rattle.tp_meaning.specs.World.{World}
 use Rattle.tp_meaning.specs.Search as search
 use Rattle.tp_meaning.specs.Search.{Searched, Outcome, try}
 use Rattle.tp_meaning.specs.Machine as machine
-use Rattle.tp_meaning.specs.Machine.{State, Turn, GoesOn, Ends, machine_of, started, turn_by, closed}
+use Rattle.tp_meaning.specs.Machine.{Turn, GoesOn, Ends, machine_of, started, turn_by, closed}
 use Rattle.tp_meaning.specs.Step.{searched}
 use Rattle.tp_engine.specs.declared.run.How.{How}
 use Rattle.tp_engine.specs.declared.run.How.TheVariants.{NoMore, Stopped, Raised, Budget}

@@ -1,17 +1,4 @@
-pub mod Program
 pub mod Code
-pub mod Built
-pub mod Causes
-pub mod Enters
-pub mod Heads
-pub mod Untried
-pub mod Conditions
-pub mod Machine
-pub mod Meets
-pub mod Parts
-pub mod Goes
-pub mod Chooses
-pub mod Start
 pub mod Told
 pub mod Phases
 pub mod Answers

@@ -2,10 +2,10 @@
 use Rattle.std.specs.Prelude.{◌≡◌, ℕ, ◌<◌, ◌≤◌, true, []}
 use Rattle.tp_engine.specs.declared.answers.AnswerFault.{AnswerFault}
 use Rattle.tp_engine.specs.declared.answers.AnswerFault.TheVariants.{Write, NoMemory}
-use Rattle.tp_engine.specs.declared.machine.Machine.{Machine}
+use Rattle.tp_machine.specs.declared.machine.Machine.{Machine}
 use Rattle.tp_engine.specs.declared.phase.Phase.{Phase}
 use Rattle.tp_engine.specs.declared.phase.Phase.TheVariants as phase
-use Rattle.tp_engine.specs.Machine.{IsMachine, IsBack}
+use Rattle.tp_machine.specs.Machine.{IsMachine, IsBack}
 
 -- a machine that may go on; no stamp is above the number of steps
 pub record IsReady (m : Machine) (number steps : ℕ) : Type 0 where

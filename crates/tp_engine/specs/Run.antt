@@ -8,20 +8,20 @@ use Rattle.tp_meaning.specs.Machine.{Turn, GoesOn, Ends, machine_of, started, en
 use Rattle.tp_meaning.specs.Step.{step, searched}
 use Rattle.tp_meaning.specs.declared.DeadCause.{DeadCause}
 use Rattle.tp_meaning.specs.declared.DeadCause.TheVariants.{Failed, Deadlock, Late}
-use Rattle.tp_meaning.proofs.Turns.{total}
+use Rattle.tp_meaning.specs.Total.{total}
 use Rattle.tp_engine.specs.declared.answers.AnswerFault.{AnswerFault}
 use Rattle.tp_engine.specs.declared.answers.AnswerFault.TheVariants as why
-use Rattle.tp_engine.specs.declared.machine.Machine.{Machine}
+use Rattle.tp_machine.specs.declared.machine.Machine.{Machine}
 use Rattle.tp_engine.specs.declared.phase.Phase.TheVariants as phase
-use Rattle.tp_engine.specs.declared.phase.Stepped.{Stepped}
-use Rattle.tp_engine.specs.declared.phase.Stepped.TheVariants as answer
+use Rattle.tp_machine.specs.declared.stepped.Stepped.{Stepped}
+use Rattle.tp_machine.specs.declared.stepped.Stepped.TheVariants as answer
 use Rattle.tp_engine.specs.declared.run.Ended.{Ended}
 use Rattle.tp_engine.specs.declared.run.How.{How}
 use Rattle.tp_engine.specs.declared.run.How.TheVariants.{NoMore, Stopped, Raised, Budget}
 use Rattle.tp_engine.specs.declared.tally.Tally.{Tally}
 use Rattle.tp_engine.specs.Answers.{Answer, Leaves, Takes, Took, numbered}
 use Rattle.tp_engine.specs.Ended.{RaisedStands, after_turns, end_of}
-use Rattle.tp_engine.specs.Machine.{IsMachine, SameProgram, answer_by, base_in, state_in, world_in}
+use Rattle.tp_machine.specs.Machine.{IsMachine, SameProgram, answer_by, base_in, state_in, world_in}
 use Rattle.tp_engine.specs.Told.{Told, seen_of, told_of}
 
 -- ---- counts

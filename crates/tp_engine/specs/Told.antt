@@ -16,16 +16,16 @@ use Rattle.tp_store.specs.Contents.{IsStore, seen}
 use Rattle.tp_parse.specs.declared.read.ReadTerm.{ReadTerm}
 use Rattle.tp_parse.specs.Ops.{Entries}
 use Rattle.tp_clauses.specs.Contents as kept
-use Rattle.tp_engine.specs.declared.machine.Machine.{Machine}
+use Rattle.tp_machine.specs.declared.machine.Machine.{Machine}
 use Rattle.tp_engine.specs.declared.phase.Phase.{Phase}
 use Rattle.tp_engine.specs.declared.phase.Phase.TheVariants as phase
-use Rattle.tp_engine.specs.declared.phase.Stepped.{Stepped}
-use Rattle.tp_engine.specs.declared.phase.Stepped.TheVariants as answer
+use Rattle.tp_machine.specs.declared.stepped.Stepped.{Stepped}
+use Rattle.tp_machine.specs.declared.stepped.Stepped.TheVariants as answer
 use Rattle.tp_state.specs.Plain.{Plain, world_of}
-use Rattle.tp_engine.specs.Program.{goal_term}
+use Rattle.tp_machine.specs.Program.{goal_term}
 use Rattle.tp_terms.specs.Events.{EventStands}
 use Rattle.tp_state.specs.State.{plain_of}
-use Rattle.tp_engine.specs.Machine.{base_in, open_in}
+use Rattle.tp_machine.specs.Machine.{base_in, open_in}
 
 -- an engine's own state: the table of names, the plain contents and the stamp of its world, how
 -- many steps were answers, how many were made, the named variables of its goal, and the operators

@@ -5,18 +5,18 @@ ghost use Rattle.tp_terms.specs.Shown.{AreNamed};
 ghost use Rattle.tp_meaning.specs.Body.{body};
 ghost use Rattle.tp_meaning.specs.Machine.{stepped, rewound, resumed};
 ghost use Rattle.tp_meaning.specs.Step.{searched};
-ghost use Rattle.tp_engine.specs.Program.{GoalFits, goal_term};
+ghost use Rattle.tp_machine.specs.Program.{GoalFits, goal_term};
 ghost use Rattle.tp_engine.specs.Told.{IsStarted, IsSound, IsSame, IsCounted, IsUncounted, IsStacked, IsWhole, MayStep, MayRewind, MayResume, PlaceStands, answer_of, number_after, state_of};
 ghost use Rattle.tp_engine.specs.declared.phase.Phase.{Phase};
 ghost use Rattle.tp_engine.specs.declared.start.StartFault.{StartFault};
 
-use crate::machine::Machine;
-use crate::phase::{Phase, Stepped};
+use crate::phase::Phase;
 use crate::start::StartFault;
 use crate::view::AnswerView;
 use std::alloc::Global;
 use std::marker::Model;
 use tp_clauses::Base;
+use tp_machine::{Machine, Stepped};
 use tp_parse::ReadTerm;
 use tp_terms::{Atoms, NoMemory};
 

@@ -2,7 +2,7 @@
 
 ghost use Rattle.std.specs.Prelude.{◌≡◌, ◌≤◌, ◌<◌, [], Err, IfOk, IfErr, OnOk, OnErr};
 ghost use Rattle.tp_outside.specs.Count.{Rose};
-ghost use Rattle.tp_engine.specs.Machine.{IsMachine, SameProgram};
+ghost use Rattle.tp_machine.specs.Machine.{IsMachine, SameProgram};
 ghost use Rattle.tp_engine.specs.Answers.{IsCutShort, Took};
 ghost use Rattle.tp_engine.specs.Ended.{Finds, Reaches, answers_of, outcome_of};
 ghost use Rattle.tp_engine.specs.Phases.{phase_after};
@@ -13,9 +13,10 @@ ghost use Rattle.tp_engine.specs.declared.answers.AnswerFault.{AnswerFault};
 
 use crate::answers::{AnswerFault, Answers};
 use crate::engine::Engine;
-use crate::machine::Machine;
 use crate::phase::Phase;
 use crate::tally::Tally;
+use crate::turns::turn;
+use tp_machine::Machine;
 use tp_terms::Ref;
 
 /// How a run ends.
@@ -102,7 +103,7 @@ fn search<A: Answers>(
         late: 0,
     };
     'turns: while tally.steps < budget {
-        if let Some(how) = machine.turn(&mut tally, wanted, answers)? {
+        if let Some(how) = turn(machine, &mut tally, wanted, answers)? {
             return Ok(summed(tally, how));
         }
     }

@@ -2,7 +2,7 @@
 
 ghost use Rattle.std.specs.Prelude.{◌≡◌, ◌<◌, ◌-◌, ◌^◌};
 
-use crate::phase::Stepped;
+use tp_machine::Stepped;
 use tp_meaning::DeadCause;
 
 /// The counts of a run: steps, answers, and dead ends by their cause.

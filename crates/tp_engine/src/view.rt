@@ -2,9 +2,9 @@
 
 ghost use Rattle.std.specs.Prelude.{◌≡◌, ℕ, ◌<◌, length, map, slice_get, Some};
 
-use crate::machine::Machine;
 use std::marker::Model;
 use tp_history::Events;
+use tp_machine::Machine;
 use tp_parse::Ops;
 use tp_state::State;
 use tp_store::Store;

@@ -105,7 +105,8 @@ fn are_names(names: &[AtomId], atoms: &Atoms) -> bool
     true
 }
 
-/// The lines of an answer at the time 0, with those of the events that stand. The processes are `main`, `+`, `/\` and
+/// The lines of an answer at the time 0, with those of the events that stand. The processes are
+/// `main`, `+`, `/\` and
 /// `It's`.
 fn answer(
     alloc: Global,

@@ -3,7 +3,7 @@
 ghost use Rattle.std.specs.Prelude.{◌≡◌, ◌<◌, length, true, IfOk, OnOk, IsTrue};
 ghost use Rattle.tp_terms.specs.Names.{Grows};
 ghost use Rattle.tp_terms.specs.Shown.{AreNamed};
-ghost use Rattle.tp_engine.specs.Program.{GoalFits};
+ghost use Rattle.tp_machine.specs.Program.{GoalFits};
 ghost use Rattle.tp_engine.specs.Told.{MayStep, MayRewind, MayResume, MayRun};
 
 use std::alloc::Global;

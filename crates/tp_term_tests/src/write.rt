@@ -111,8 +111,8 @@ fn intern(name: &str, atoms: &mut Atoms, cells: &Cells) -> Result<AtomId, NoMemo
     atoms.intern(name)
 }
 
-/// The cell of a word: an integer, a variable such as `_1`, an atom, or a name and a number of arguments such as `f#2`,
-/// whose arguments were made before.
+/// The cell of a word: an integer, a variable such as `_1`, an atom, or a name and a number of
+/// arguments such as `f#2`, whose arguments were made before.
 fn cell_of(
     word: &str,
     atoms: &mut Atoms,
@@ -226,7 +226,8 @@ fn terms(rt: HostRuntime) -> Result<(), Fail> {
     Ok(())
 }
 
-/// So many compounds in one another, each with the cell before it as last argument, and with 1 before that in a pair.
+/// So many compounds in one another, each with the cell before it as last argument, and with 1
+/// before that in a pair.
 fn tower(
     name: AtomId,
     pairs: bool,

@@ -37,7 +37,7 @@ use Rattle.tp_engine.specs.declared.run.Ended as engine
 use Rattle.tp_engine.specs.Ended.{Finds, end_of, outcome_of}
 use Rattle.tp_engine.specs.Answers as taken
 use Rattle.tp_engine.specs.Answers.{Took, numbered}
-use Rattle.tp_engine.specs.Program.{goal_term}
+use Rattle.tp_machine.specs.Program.{goal_term}
 use Rattle.tp_engine.specs.Told.{IsSame, IsStarted, Told, world_in}
 use Rattle.tp_report.specs.declared.end.EndLine.{EndLine}
 use Rattle.tp_report.specs.declared.end.EndLine.TheVariants as last
@@ -50,7 +50,7 @@ use Rattle.tp_top.specs.declared.lines.Lines.{Lines}
 use Rattle.tp_top.specs.Told.{AddsAnswer, found_in, for_read, model_in}
 use Rattle.tp_top.specs.Expected.{Request, request, Answer, budget, found, named_in, for_found, for_goal, for_model, for_text, for_held, expected_of, usage, too_long, model_refused, goal_refused}
 use Rattle.tp_top.specs.Ended.{IsPlain, OfUsage, OfExpected, Prepared}
-use Rattle.tp_engine.proofs.Worlds.Names.{base-later}
+use Rattle.tp_machine.proofs.Worlds.Names.{base-later}
 
 some_same : {X : Type 0} (x y : X) → Some x ≡ Some y → x ≡ y
 some_same x y e = cc

@@ -9,7 +9,7 @@ use Rattle.tp_meaning.specs.Body.{body}
 use Rattle.tp_clauses.specs.Contents.{Contents, base_of}
 use Rattle.tp_clauses.specs.Goal.{with_body}
 use Rattle.tp_clauses.specs.Model.{Model}
-use Rattle.tp_engine.specs.Program.{goal_term}
+use Rattle.tp_machine.specs.Program.{goal_term}
 use Rattle.tp_engine.specs.Answers as engine
 use Rattle.tp_report.specs.Report.{world_answer_text}
 use Rattle.tp_top.specs.declared.lines.Lines.{Lines}

@@ -4,7 +4,7 @@ ghost use Rattle.std.specs.Prelude.{◌≡◌, ◌≤◌, length, IfOk};
 ghost use Rattle.tp_terms.specs.Shown.{AreNamed};
 ghost use Rattle.tp_parse.specs.Ops.{table_of};
 ghost use Rattle.tp_engine.specs.Ended.{outcome_of};
-ghost use Rattle.tp_engine.specs.Program.{GoalFits};
+ghost use Rattle.tp_machine.specs.Program.{GoalFits};
 ghost use Rattle.tp_engine.specs.Told.{MayRun};
 ghost use Rattle.tp_top.specs.Expected.{for_goal, for_text};
 ghost use Rattle.tp_top.specs.Replies.{view_of};

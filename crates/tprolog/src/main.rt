@@ -1,7 +1,7 @@
 //! Searches a model for an answer to a goal, and prints the answer with its timed history.
 //!
-//! The words are the name of the model's file and the goal. Everything is printed to standard output, and the exit
-//! status is the number of the run's [`Status`].
+//! The words are the name of the model's file and the goal. Everything is printed to standard
+//! output, and the exit status is the number of the run's [`Status`].
 #![tactic(auto)]
 
 use std::env;

@@ -20,9 +20,9 @@ use Rattle.tp_clauses.specs.Contents.{Contents}
 use Rattle.tp_engine.specs.declared.answers.AnswerFault.{AnswerFault}
 use Rattle.tp_control.specs.declared.choices.Alt.{Alt}
 use Rattle.tp_control.specs.declared.choices.Choice.{Choice}
-use Rattle.tp_engine.specs.declared.machine.Machine.{Machine}
-use Rattle.tp_engine.specs.declared.phase.Stepped.{Stepped}
-use Rattle.tp_engine.specs.declared.phase.Stepped.TheVariants as answer
+use Rattle.tp_machine.specs.declared.machine.Machine.{Machine}
+use Rattle.tp_machine.specs.declared.stepped.Stepped.{Stepped}
+use Rattle.tp_machine.specs.declared.stepped.Stepped.TheVariants as answer
 use Rattle.tp_engine.specs.declared.run.How.{How}
 use Rattle.tp_engine.specs.declared.run.How.TheVariants.{NoMore, Stopped, Raised, Budget}
 use Rattle.tp_engine.specs.declared.tally.Tally.{Tally}
@@ -30,13 +30,13 @@ use Rattle.tp_meaning.specs.declared.DeadCause.TheVariants.{Failed, Deadlock, La
 use Rattle.tp_engine.specs.Answers.{Answer, Leaves, Takes, Took, IsCutShort, numbered}
 use Rattle.tp_engine.specs.Ended.{AnswerStands, Finds, RaisedStands, Reaches, after_turns, end_of, last_world, turns_of}
 use Rattle.tp_state.specs.State.{held_of}
-use Rattle.tp_engine.specs.Machine.{IsMachine, base_in, choices_in, choices_of, state_in, waiting_of, world_in}
+use Rattle.tp_machine.specs.Machine.{IsMachine, base_in, choices_in, choices_of, state_in, waiting_of, world_in}
 use Rattle.tp_engine.specs.Run.{EndsAt, IsCut, IsCutAt, IsRun, Turns, answers_by, counted, at_end, at_start, ended_by, found_by, next_answer, tally_of, turn_to}
 use Rattle.tp_engine.specs.Told.{seen_of}
 use Rattle.tp_engine.proofs.Finds.Taken.{numbered-append, took-append}
 use Rattle.tp_engine.proofs.Finds.Turns.{found_after}
-use Rattle.tp_engine.proofs.Program.{base_fits}
-use Rattle.tp_engine.proofs.SamePrograms.{same_trans}
+use Rattle.tp_machine.proofs.Program.{base_fits}
+use Rattle.tp_machine.proofs.SamePrograms.{same_trans}
 
 -- ---- a step, counted
 

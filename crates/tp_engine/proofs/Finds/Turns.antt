@@ -6,7 +6,7 @@ use Rattle.tp_meaning.specs.World.{World}
 use Rattle.tp_meaning.specs.Search as search
 use Rattle.tp_meaning.specs.Search.{Outcome, Searched}
 use Rattle.tp_meaning.specs.Machine as machine
-use Rattle.tp_meaning.specs.Machine.{Choice, State, Turn, GoesOn, Ends, machine_of, ended, back, back_to, rewound, rewound_to, resumed, stepped, stepped_by, turned, turn_by, answer_more}
+use Rattle.tp_meaning.specs.Machine.{Choice, State, Turn, GoesOn, Ends, machine_of, ended, back, back_to, rewound, rewound_to, stepped, stepped_by, turned, answer_more}
 use Rattle.tp_meaning.specs.Step.{step, searched}
 use Rattle.tp_meaning.specs.declared.DeadCause.{DeadCause}
 use Rattle.tp_meaning.specs.declared.DeadCause.TheVariants.{Failed, Deadlock, Late}
@@ -15,17 +15,17 @@ use Rattle.tp_parse.specs.declared.read.ReadTerm.{ReadTerm}
 use Rattle.tp_clauses.specs.Contents.{Contents}
 use Rattle.tp_engine.specs.declared.answers.AnswerFault.{AnswerFault}
 use Rattle.tp_engine.specs.declared.answers.AnswerFault.TheVariants as why
-use Rattle.tp_engine.specs.declared.machine.Machine.{Machine}
-use Rattle.tp_engine.specs.declared.phase.Stepped.{Stepped}
-use Rattle.tp_engine.specs.declared.phase.Stepped.TheVariants as answer
+use Rattle.tp_machine.specs.declared.machine.Machine.{Machine}
+use Rattle.tp_machine.specs.declared.stepped.Stepped.{Stepped}
+use Rattle.tp_machine.specs.declared.stepped.Stepped.TheVariants as answer
 use Rattle.tp_engine.specs.declared.run.How.{How}
 use Rattle.tp_engine.specs.declared.run.How.TheVariants.{NoMore}
 use Rattle.tp_engine.specs.declared.tally.Tally.{Tally}
 use Rattle.tp_engine.specs.Answers.{Leaves, Takes, Took, answer_in}
-use Rattle.tp_engine.specs.Machine.{SameProgram, Steps, Rewinds, Resumes, answer_by, base_in, state_in, world_in}
+use Rattle.tp_machine.specs.Machine.{SameProgram, Steps, Rewinds, Resumes, answer_by, base_in, state_in, world_in}
 use Rattle.tp_engine.specs.Run.{CountsFit, EndsAt, Follows, GoesBack, IsCut, IsCutAt, Turns, answers_by, counted, found_by, next_answer}
 use Rattle.tp_engine.specs.Told.{seen_of}
-use Rattle.tp_engine.proofs.SamePrograms.{same_trans}
+use Rattle.tp_machine.proofs.SamePrograms.{same_trans}
 
 -- ---- the way back
 

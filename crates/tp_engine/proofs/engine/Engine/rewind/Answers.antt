@@ -1,5 +1,5 @@
 use Rattle.std.proofs.Common.{subst, sym}
-use Rattle.tp_engine.specs.Machine.{IsMachine}
+use Rattle.tp_machine.specs.Machine.{IsMachine}
 use Rattle.tp_engine.specs.Told.{Told, MayRewind}
 use Rattle.tp_engine.proofs.Calls.{may_rewind, rewound_stack, uncounted}
 use Rattle.tp_engine.proofs.engine.Engine.rewind.Goals as goal

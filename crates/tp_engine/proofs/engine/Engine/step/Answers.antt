@@ -1,7 +1,7 @@
 use Rattle.std.proofs.Common.{◌≡◌, ◌+◌, subst}
 use Rattle.tp_meaning.specs.Machine.{stepped}
 use Rattle.tp_meaning.specs.Step.{searched}
-use Rattle.tp_engine.specs.Machine.{answer_by, state_in}
+use Rattle.tp_machine.specs.Machine.{answer_by, state_in}
 use Rattle.tp_engine.specs.Told.{Told, state_of}
 use Rattle.tp_engine.proofs.Calls.{kept_program, same_told, uncounted, counted, on_err}
 use Rattle.tp_engine.proofs.engine.Engine.step.Goals as goal

@@ -1,0 +1,15 @@
+pub mod Program
+pub mod Built
+pub mod Causes
+pub mod Enters
+pub mod Heads
+pub mod Untried
+pub mod Conditions
+pub mod Machine
+pub mod Meets
+pub mod Parts
+pub mod Goes
+pub mod Calling
+pub mod Between
+pub mod Chooses
+pub mod Start

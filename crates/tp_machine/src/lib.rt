@@ -1,0 +1,23 @@
+//! A machine: the one world that a search stands at with the choices that stand open, its step,
+//! and the way back. `IsMachine` of specs/Machine.antt says what holds of it.
+#![tactic(auto)]
+
+mod begin;
+mod between;
+mod call;
+mod clauses;
+mod control;
+mod enter;
+mod errors;
+mod goals;
+mod heads;
+mod items;
+mod machine;
+mod numbers;
+mod parts;
+mod schedule;
+mod stepped;
+mod task;
+
+pub use machine::Machine;
+pub use stepped::Stepped;
