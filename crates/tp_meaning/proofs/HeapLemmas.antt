@@ -11,7 +11,7 @@ use Rattle.tp_meaning.specs.Subst.{apply}
 use Rattle.tp_meaning.specs.Heap.{Heap, CanStand, AddsCells, Makes, IsNumbered, shown, seen, cell_shown, cell_seen, with_cell}
 
 pub adds-none : (h : Heap) → AddsCells h h
-adds-none h = record { more = []; cells = sym (append-nil h.cells); subst = refl; next = refl; names = refl }
+adds-none h = record { more = []; cells = sym (append-nil h.cells); subst = refl; next = refl; names = refl; trail = refl }
 
 pub adds-trans : (a b c : Heap) → AddsCells a b → AddsCells b c → AddsCells a c
 adds-trans a b c h k = record {
@@ -20,6 +20,7 @@ adds-trans a b c h k = record {
   subst = k.subst ∙ h.subst;
   next = k.next ∙ h.next;
   names = k.names ∙ h.names;
+  trail = k.trail ∙ h.trail;
 }
 
 -- one cell more
@@ -30,6 +31,7 @@ adds-cell h k c e = record {
   subst = ap (λ (q : Heap). q.subst) e;
   next = ap (λ (q : Heap). q.next) e;
   names = ap (λ (q : Heap). q.names) e;
+  trail = ap (λ (q : Heap). q.trail) e;
 }
 
 pub longer : (a b : Heap) → AddsCells a b → length a.cells ≤ length b.cells

@@ -11,10 +11,13 @@ pub mod Acts
 pub mod Under
 pub mod Leaves
 pub mod Goes
+pub mod Copies
+pub mod BuiltIns
 pub mod Rise
 pub mod Holds
 pub mod Made
 pub mod OneUnifier
+pub mod Pairs
 pub mod Applied
 pub mod Bodies
 pub mod Seen
@@ -25,3 +28,4 @@ mod RowsOfArith
 pub mod OwnGoals
 mod OperationPlaces
 pub mod HeapLemmas
+pub mod TrailLemmas

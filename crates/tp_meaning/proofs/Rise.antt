@@ -7,18 +7,22 @@ use Rattle.tp_meaning.specs.Subst.{Subst, mgu}
 use Rattle.tp_meaning.specs.Checks.{Checked, unknown}
 use Rattle.tp_meaning.specs.Body.{body}
 use Rattle.tp_meaning.specs.World.{World, Process, Item, Goal, Commit, Retry, start, status_at, items_at, world_under}
-use Rattle.tp_meaning.specs.Turn.{Turn, Gives, some, raised_at}
+use Rattle.tp_meaning.specs.Turn.{Turn, Gives, going, some, raised_at}
 use Rattle.tp_meaning.specs.Goals.{GoalKind, goal_kind}
 use Rattle.tp_meaning.specs.Goals as kind
 use Rattle.tp_meaning.specs.Clauses.{Clause, Base, predicate, renamed, head_of, body_items, by_clause, try_clause, worlds_of, user_goal}
 use Rattle.tp_meaning.specs.Scheduler.{choose}
-use Rattle.tp_meaning.specs.Step.{goal_by, goal_step, item_step, step}
+use Rattle.tp_meaning.specs.Answers.{Answer, Yes, No}
+use Rattle.tp_meaning.specs.Builtin.{of_args}
+use Rattle.tp_meaning.specs.declared.goals.BuiltId.{BuiltId}
+use Rattle.tp_meaning.specs.Step.{answered, built_in, goal_by, goal_step, item_step, step}
 use Rattle.tp_meaning.specs.Valid.{slots_of, due, is_running, Below, AllBelow, ItemsFit, EventFits, KindFits, Valid, Follows, EachFollows, ClauseFits, StampsRise}
 use Rattle.tp_meaning.proofs.Places.{all-weaker, all-append}
-use Rattle.tp_meaning.proofs.Keeps.{keeps, items-later, going-follows, some-follow, body-below, term_of-below, control-follows}
+use Rattle.tp_meaning.proofs.Keeps.{keeps, items-later, going-follows, after-ok, some-follow, body-below, term_of-below, control-follows}
 use Rattle.tp_meaning.proofs.Acts.{choose-follows}
 use Rattle.tp_meaning.proofs.Under.{Unifies, mgu-unifies, under-valid, replaced-below, all_replaced-below, below-more, bound-more}
-use Rattle.tp_meaning.proofs.Goes.{TurnFits, later, ended-valid, await_again-follows}
+use Rattle.tp_meaning.proofs.BuiltIns.{AnswerFits, of_args-fits}
+use Rattle.tp_meaning.proofs.Goes.{TurnFits, later, goes, ended-valid, await_again-follows}
 
 -- ---- user goals
 
@@ -125,10 +129,18 @@ user-follows base t f ts a k h = go (predicate base f (count_of ts)) (predicate-
 
 -- ---- a step
 
+answered-follows : (t : Turn) (a : Answer) → TurnFits t → AnswerFits t.world.next a → EachFollows t.world (answered t a)
+answered-follows t No f h = tt
+answered-follows t (Yes u n) f h = (record { valid = under-valid u (record (going t t.rest) { next = n }) h.1 (next-valid (going t t.rest) n (goes t t.rest f (later t f)) h.0); stamp = refl; next = h.0 }, tt)
+
+built_in-follows : (t : Turn) (k : BuiltId) (ts : Terms) → TurnFits t → AllBelow t.world.next ts → IfOk (built_in t k ts) (EachFollows t.world)
+built_in-follows t k ts f h =
+    after-ok (AnswerFits t.world.next) (EachFollows t.world) (of_args k t.world.subst t.world.next ts) _ (of_args-fits k t.world.subst t.world.next ts (record { bound = f.valid.bindings; is_subst = f.valid.is_subst }) h) (λ a k. answered-follows t a f k)
+
 goal_by-follows : (base : Base) (t : Turn) (b : ℕ) (f : Name) (ts : Terms) (o : Option GoalKind) → AllByRecursion ClauseFits base → TurnFits t → b ≤ t.world.stamp → AllBelow t.world.next ts → IfOk (goal_by base t b f ts o) (EachFollows t.world)
 goal_by-follows base t b f ts (Some (kind.Control k)) a fit le h = control-follows t b k f ts fit.valid le h fit.rest
 goal_by-follows base t b f ts (Some (kind.Process k)) a fit le h = tt
-goal_by-follows base t b f ts (Some (kind.BuiltIn k)) a fit le h = tt
+goal_by-follows base t b f ts (Some (kind.BuiltIn k)) a fit le h = built_in-follows t k ts fit h
 goal_by-follows base t b f ts None a fit le h = user-follows base t f ts a fit h
 
 goal_step-follows : (base : Base) (t : Turn) (b : ℕ) (g : Term) → AllByRecursion ClauseFits base → TurnFits t → b ≤ t.world.stamp → Below t.world.next g → IfOk (goal_step base t b g) (EachFollows t.world)

@@ -7,14 +7,16 @@ use Rattle.tp_terms.specs.Names.{IsTable, with_name}
 use Rattle.tp_terms.specs.Shown.{shows, shown_from, StandsBefore, AreBuilt, IsNamed, AreNamed}
 use Rattle.tp_meaning.specs.Subst.{Subst, IsSubst, apply, bound_to, mgu}
 use Rattle.tp_meaning.specs.Copy.{copy_of}
+use Rattle.tp_meaning.specs.Trail.{Trail, TrailGrows}
 
--- the cells by their places, what their variables stand for, the first variable number that is not
--- in use, and the table of names
+-- The cells by their places, what their variables stand for, the first variable number that is not
+-- in use, the table of names, and how the variables were bound, with the log that takes this back.
 pub record Heap : Type 0 where
   pub cells : List Cell
   pub subst : Subst
   pub next : ℕ
   pub names : List Name
+  pub trail : Trail
 
 -- the term of a place and that of a cell, bindings aside
 abbrev pub shown : Heap → ℕ → Term
@@ -93,6 +95,7 @@ pub record AddsCells (old new : Heap) : Type 0 where
   pub subst : new.subst ≡ old.subst
   pub next : new.next ≡ old.next
   pub names : new.names ≡ old.names
+  pub trail : new.trail ≡ old.trail
 
 -- Only cells were added. The cell can be added to the new heap, and its term is this one.
 pub record Makes (old new : Heap) (c : Cell) (t : Term) : Type 0 where
@@ -100,12 +103,13 @@ pub record Makes (old new : Heap) (c : Cell) (t : Term) : Type 0 where
   pub stands : CanStand new c
   pub term : cell_shown new c ≡ t
 
--- cells and bindings may have been added, and all else stays
+-- Cells and bindings may have been added, and the bindings' entries to the log. All else stays.
 pub record AddsBindings (old new : Heap) : Type 0 where
   pub more : List Cell
   pub cells : new.cells ≡ old.cells ++ more
   pub next : new.next ≡ old.next
   pub names : new.names ≡ old.names
+  pub trail : TrailGrows old.trail new.trail
 
 -- the terms of two places have the most general unifier that the new bindings are, or none
 abbrev pub FindsUnifier : Heap → Heap → ℕ → ℕ → Bool → Type 0
@@ -124,5 +128,6 @@ pub record Copies (old new : Heap) (at place : ℕ) : Type 0 where
   pub subst : new.subst ≡ old.subst
   pub next : new.next ≡ old.next + (copy_of old.next (seen old at)).1
   pub names : new.names ≡ old.names
+  pub trail : new.trail ≡ old.trail
   pub within : place < length new.cells
   pub copy : seen new place ≡ (copy_of old.next (seen old at)).0

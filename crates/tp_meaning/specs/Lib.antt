@@ -5,6 +5,9 @@ pub mod Goals
 pub mod Checks
 pub mod Arith
 pub mod Copy
+pub mod Answers
+pub mod Builtin
+pub mod Trail
 pub mod Heap
 pub mod Body
 pub mod World

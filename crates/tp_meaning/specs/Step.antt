@@ -1,10 +1,13 @@
 -- One step of a world.
-use Rattle.std.specs.Prelude.{ℕ, List, [], ◌∷◌, Option, Some, None, Err}
+use Rattle.std.specs.Prelude.{ℕ, List, [], ◌∷◌, Option, Some, None, Ok, Err}
 use Rattle.tp_terms.specs.Term.{Name, Term, Terms, Var, Int, Atom, Comp, NoMore, count_of}
-use Rattle.tp_meaning.specs.Checks.{Checked, unbound, type_error, unknown}
-use Rattle.tp_meaning.specs.World.{World, Item, Goal, Retry, Ended, End, start, with_status, with_event, let_go, stamped, items_at}
+use Rattle.tp_meaning.specs.Checks.{Checked, ◌>>=◌, unbound, type_error, unknown}
+use Rattle.tp_meaning.specs.Answers.{Answer, Yes, No}
+use Rattle.tp_meaning.specs.Builtin.{of_args}
+use Rattle.tp_meaning.specs.declared.goals.BuiltId.{BuiltId}
+use Rattle.tp_meaning.specs.World.{World, Item, Goal, Retry, Ended, End, start, world_under, with_status, with_event, let_go, stamped, items_at}
 use Rattle.tp_meaning.specs.World as item
-use Rattle.tp_meaning.specs.Search.{Commit, Searched, Outcome, try}
+use Rattle.tp_meaning.specs.Search.{Failed, Dead, Commit, Searched, Outcome, try}
 use Rattle.tp_meaning.specs.Turn.{Turn, Gives, going, one, raised_at}
 use Rattle.tp_meaning.specs.Goals.{GoalKind, Control, Process, BuiltIn, goal_kind}
 use Rattle.tp_meaning.specs.Control.{control}
@@ -12,11 +15,22 @@ use Rattle.tp_meaning.specs.Process.{await_again}
 use Rattle.tp_meaning.specs.Clauses.{Base, user_goal}
 use Rattle.tp_meaning.specs.Scheduler.{choose}
 
--- what a goal gives, by its kind; process goals and built-ins are unknown as yet
+-- what an answer gives: where the goal succeeds, the process goes on under what it bound
+abbrev pub answered : Turn → Answer → Gives
+answered t No = Dead Failed
+answered t (Yes u next) = one (record (world_under u (going t t.rest)) { next = next })
+
+-- what a built-in gives
+abbrev pub built_in : Turn → BuiltId → Terms → Checked Gives
+built_in t k ts = do
+  a ← of_args k t.world.subst t.world.next ts
+  Ok (answered t a)
+
+-- what a goal gives, by its kind; process goals are unknown as yet
 abbrev pub goal_by : Base → Turn → ℕ → Name → Terms → Option GoalKind → Checked Gives
 goal_by base t b f ts (Some (Control k)) = control t b k f ts
 goal_by base t b f ts (Some (Process k)) = Err (unknown f (count_of ts))
-goal_by base t b f ts (Some (BuiltIn k)) = Err (unknown f (count_of ts))
+goal_by base t b f ts (Some (BuiltIn k)) = built_in t k ts
 goal_by base t b f ts None = user_goal base t f ts
 
 -- no item holds a variable or an integer as its goal

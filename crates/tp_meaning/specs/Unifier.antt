@@ -1,6 +1,6 @@
 -- What a most general unifier of two terms under a substitution is.
 use Rattle.std.specs.Prelude.{◌≡◌, ◌≤◌, ◌↔◌, ℕ, true, false, ◌||◌, Some, None, is_some}
-use Rattle.tp_terms.specs.Term.{Term, Var, occurs}
+use Rattle.tp_terms.specs.Term.{Name, Term, Var, Int, Atom, Comp, NoMore, More, occurs}
 use Rattle.tp_meaning.specs.Subst.{Subst, IsSubst, bound_to, apply, mgu}
 
 -- u is a substitution over s under which both terms are the same
@@ -29,3 +29,16 @@ pub record OneUnifier (s : Subst) (a b : Term) : Type 0 where
 
 abbrev pub MguIsTheOneUnifier : Type 0
 MguIsTheOneUnifier = (s : Subst) (a b : Term) → IsSubst s → OneUnifier s a b
+
+-- ---- two equations at once
+
+-- an atom or an integer
+abbrev pub IsConstant : Term → Type 0
+IsConstant (Atom a) = Unit {0}
+IsConstant (Int z) = Unit {0}
+IsConstant (Var v) = ⊥
+IsConstant (Comp f ts) = ⊥
+
+-- a compound of two arguments
+abbrev pub pair : Name → Term → Term → Term
+pair f a b = Comp f (More a (More b NoMore))

@@ -14,7 +14,8 @@ use tp_terms::{AtomId, Cell, NoMemory, Ref};
 ///
 /// The constants of `tp_terms::symbols` name their names in every such table, and no call changes a
 /// name that stood. A call only adds cells, so no place that stood shows another term, bindings
-/// aside. Only `unify` binds, and only where it answers true.
+/// aside. Only `unify` binds, and only where it answers true; then the log of acts gets an entry for
+/// each variable that is bound, and no other.
 ///
 /// Where a call answers `NoMemory`, nothing was bound, the next variable and the names are as
 /// before, and there may be further cells, which nothing shows.
