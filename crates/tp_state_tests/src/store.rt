@@ -13,13 +13,13 @@ const B: AtomId = AtomId { at: 1 };
 
 const F: AtomId = AtomId { at: 2 };
 
-/// Whether a place is there and shows an atom.
-fn shows(store: &Store, at: Ref, name: AtomId) -> bool {
-    at.at < store.cells().len() && store.top(at) == Cell::Atom(name)
+/// Whether a place is there and shows a cell.
+fn shows(store: &Store, at: Ref, cell: Cell) -> bool {
+    at.at < store.cells().len() && store.top(at) == cell
 }
 
-/// Whether two adjacent places are there and show atoms.
-fn show(store: &Store, first: Ref, left: AtomId, right: AtomId) -> bool {
+/// Whether two adjacent places are there and show these cells.
+fn show(store: &Store, first: Ref, left: Cell, right: Cell) -> bool {
     first.at < store.cells().len()
         && shows(store, first, left)
         && shows(store, Ref { at: first.at + 1 }, right)
@@ -88,6 +88,19 @@ fn goes_back(alloc: Global) -> Result<bool, NoMemory> {
     Ok(body == Some(Ref { at: 1 }) && count == 2 && store.mark() == mark)
 }
 
+/// Whether a place shows the compound `f` of these two.
+fn shows_pair(store: &Store, at: Ref, left: Cell, right: Cell) -> bool {
+    if at.at >= store.cells().len() {
+        return false;
+    }
+    match store.top(at) {
+        Cell::Comp { name, first, count } => {
+            name == F && count == 2 && show(store, first, left, right)
+        }
+        _ => false,
+    }
+}
+
 /// Whether `f(a)` with the further argument `b` is `f(a, b)`.
 fn takes_more(alloc: Global) -> Result<bool, NoMemory> {
     let mut store = Store::new(alloc);
@@ -99,10 +112,22 @@ fn takes_more(alloc: Global) -> Result<bool, NoMemory> {
     })?;
     let b = store.place(Cell::Atom(B))?;
     let joined = store.join(goal, b, 1)?;
-    Ok(match store.top(joined) {
-        Cell::Comp { name, first, count } => name == F && count == 2 && show(&store, first, A, B),
-        _ => false,
-    })
+    Ok(shows_pair(&store, joined, Cell::Atom(A), Cell::Atom(B)))
+}
+
+/// Whether a copy of `f(_0, _0)` is `f(_1, _1)`, where the next variable is `_1`.
+fn copies(alloc: Global) -> Result<bool, NoMemory> {
+    let mut store = Store::new(alloc);
+    let first = store.fresh()?;
+    store.place(Cell::Var(0))?;
+    let root = store.place(Cell::Comp {
+        name: F,
+        first,
+        count: 2,
+    })?;
+    let copy = store.copy(root)?;
+    let next = store.mark().vars;
+    Ok(next == 2 && shows_pair(&store, copy, Cell::Var(1), Cell::Var(1)))
 }
 
 #[test]
@@ -112,5 +137,6 @@ fn each_call_once(rt: HostRuntime) -> Result<(), Fail> {
     assert!(rt; takes_back(rt.alloc())?);
     assert!(rt; goes_back(rt.alloc())?);
     assert!(rt; takes_more(rt.alloc())?);
+    assert!(rt; copies(rt.alloc())?);
     Ok(())
 }

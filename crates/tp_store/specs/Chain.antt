@@ -1,5 +1,5 @@
 -- Chained bindings, as the code keeps them.
-use Rattle.std.specs.Prelude.{◌≡◌, ℕ, ◌+◌, ◌<◌, List, Option, Some, None, length, reverse, slice_get, slice_index_or}
+use Rattle.std.specs.Prelude.{◌≡◌, ◌⊎◌, ℕ, ◌+◌, ◌<◌, List, Option, Some, None, length, reverse, slice_get, slice_index_or}
 use Rattle.tp_terms.specs.declared.cells.Cell.{Cell}
 use Rattle.tp_terms.specs.declared.cells.Cell.TheVariants as cell
 use Rattle.tp_terms.specs.declared.cells.Ref.{Ref}
@@ -38,8 +38,14 @@ rank (cell.Int value) = 0
 rank (cell.Atom name) = 0
 rank (cell.Comp name first count) = 0
 
+-- chains that begin at one place may end at another: it is the same, or one that a variable is
+-- bound to
+abbrev pub MayEndAt : Contents → Ref → Ref → Type 0
+MayEndAt c at place = (place ≡ at) ⊎ ((v : ℕ) × (bound_in c.pairs v ≡ Some place))
+
 -- a bound variable's place shows what the variable stands for, and a variable there is older
 pub record LeadsOn (c : Contents) (x : Cell) (next : Ref) : Type 0 where
+  pub bound : (v : ℕ) × (bound_in c.pairs v ≡ Some next)
   pub within : next.at < length c.cells
   pub same : (names : List Name) → seen names c next.at ≡ seen_cell names c x
   pub falls : (y : Cell) → slice_get c.cells next.at ≡ Some y → rank y < rank x

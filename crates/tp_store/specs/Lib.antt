@@ -6,3 +6,4 @@ pub mod Bodies
 pub mod Logged
 pub mod Joined
 pub mod Ordered
+pub mod Renamed

@@ -1,19 +1,15 @@
 -- What further bindings leave in a log, and what is left when one is taken back.
-use Rattle.std.specs.Prelude.{◌≡◌, ℕ, ◌<◌, Bool, true, nat_eq, is_some, if◌then◌else◌, List, [], ◌∷◌, ◌++◌, length, map, reverse, Some, None}
+use Rattle.std.specs.Prelude.{◌≡◌, ℕ, ◌<◌, Bool, true, nat_eq, is_some, if◌then◌else◌, List, [], ◌∷◌, ◌++◌, length, Some, None}
 use Rattle.tp_terms.specs.declared.cells.Cell.{Cell}
 use Rattle.tp_terms.specs.declared.cells.Ref.{Ref}
 use Rattle.tp_terms.specs.Term.{Name}
 use Rattle.tp_terms.specs.Shown.{shows, AreNamed}
 use Rattle.tp_terms.specs.Binds.{Bindings, bound_in}
 use Rattle.tp_log.specs.declared.entry.Entry.{Entry}
-use Rattle.tp_log.specs.declared.entry.Entry.TheVariants.{Bind}
+pub use Rattle.tp_meaning.specs.Trail.{bindings_logged}
 use Rattle.tp_meaning.specs.Clauses.{renamed}
 use Rattle.tp_meaning.specs.Subst.{mgu}
 use Rattle.tp_store.specs.Contents.{Contents, Names, subst_of}
-
--- the entries of bindings, oldest first, of pairs whose newest comes first
-abbrev pub bindings_logged : Bindings → List Entry
-bindings_logged pairs = map (λ p. Bind p.0) (reverse pairs)
 
 -- The new store has further bindings, and the log their entries.
 pub record Logs (old new : Contents) (before after : List Entry) : Type 0 where

@@ -1,10 +1,10 @@
 //! Terms and chained bindings, whose facts callers keep: `Store` hides them.
 
-ghost use Rattle.std.specs.Prelude.{◌≡◌, ◌+◌, ◌<◌, ◌≤◌, List, [], ◌∷◌, length, take, reverse, slice_set, Some, IsOk, OnOk, OnErr, IfOk, IfSome, IfNone};
+ghost use Rattle.std.specs.Prelude.{◌≡◌, ◌+◌, ◌^◌, ◌<◌, ◌≤◌, List, [], ◌∷◌, length, take, reverse, slice_set, Some, IsOk, OnOk, OnErr, IfOk, IfSome, IfNone};
 ghost use Rattle.tp_terms.specs.Term.{Name};
 ghost use Rattle.tp_terms.specs.Shown.{StandsBefore, shown_from, shows};
 ghost use Rattle.tp_store.specs.Contents.{Contents, IsStore, Adds, CanGoBack, IsNumbered, IsUnbound, cut_to_mark, with_cell, with_vars, with_pair, seen, seen_cell};
-ghost use Rattle.tp_store.specs.Chain.{IsChains, IsEnd, LeadsOn, contents_of};
+ghost use Rattle.tp_store.specs.Chain.{IsChains, IsEnd, LeadsOn, MayEndAt, contents_of};
 ghost use Rattle.tp_store.specs.Logged.{IsBound, unbound, without_pair};
 ghost use Rattle.std.specs.List.{remove};
 
@@ -76,6 +76,7 @@ impl Chains {
         requires chains { IsChains self.now }
         requires place { at.at < length self.now.cells.items }
         ensures end { IsEnd (contents_of self.now) result }
+        ensures met { MayEndAt (contents_of self.now) at result.place }
         ensures same { (names : List Name) →
             seen_cell names (contents_of self.now) result.cell ≡ seen names
             (contents_of self.now) at.at }
@@ -109,6 +110,7 @@ impl Chains {
         requires chains { IsChains self.old }
         ensures chains { IsChains self.new }
         ensures first { IfOk result (λ first. first ≡ length self.old.bound.items) }
+        ensures fits { IfOk result (λ first. first + n < 2 ^ 64) }
         ensures value { OnOk result (contents_of self.new ≡ with_vars (contents_of self.old) n) }
         ensures err { OnErr result (contents_of self.new ≡ contents_of self.old) }
         ensures cells { self.new.cells ≡ self.old.cells }

@@ -6,7 +6,7 @@ ghost use Rattle.tp_terms.specs.Shown.{AreNamed, shows};
 ghost use Rattle.tp_meaning.specs.Clauses.{renamed};
 ghost use Rattle.tp_store.specs.Contents.{AddsCells};
 ghost use Rattle.tp_store.specs.Chain.{IsChains, contents_of};
-ghost use Rattle.tp_store.specs.Copy.{AreReady, IsClaimed, IsLast, NamesBoth, ShowsCopy, copies, looked_at};
+ghost use Rattle.tp_store.specs.Copy.{AreReady, IsClaimed, IsLast, NamesBoth, ShowsCopy, copies, looked_at, numbered_on};
 
 use crate::chains::Chains;
 use std::alloc::Global;
@@ -26,6 +26,17 @@ pub enum Task {
     },
 }
 
+/// A cell, its variable numbered on from the base.
+fn numbered_on(cell: Cell, base: u64) -> Cell
+    requires { (v : ℕ) → cell ≡ Cell.Var v → v + base < 2 ^ 64 }
+    ensures { result ≡ numbered_on base cell }
+{
+    match cell {
+        Cell::Var(number) => Cell::Var(number + base),
+        _ => cell,
+    }
+}
+
 /// Adds the copies of adjacent places to the tasks.
 fn push_copies(tasks: &mut Vec<Task>, first: Ref, count: u8) -> Result<(), NoMemory>
     requires { first.at + count < 2 ^ 64 }
@@ -40,23 +51,16 @@ fn push_copies(tasks: &mut Vec<Task>, first: Ref, count: u8) -> Result<(), NoMem
     Ok(())
 }
 
-/// Looks at a cell that is to be copied, its variable numbered on from the base: it is made at
-/// once, or its arguments are to be made first.
-fn look_at(
-    cell: Cell,
-    base: u64,
-    tasks: &mut Vec<Task>,
-    made: &mut Vec<Cell>,
-) -> Result<(), NoMemory>
-    requires variable { (v : ℕ) → cell ≡ Cell.Var v → v + base < 2 ^ 64 }
-    requires args { (name : AtomId) (first : Ref) (count : ℕ) → cell ≡ Cell.Comp name first count →
+/// Looks at the cell that a place is copied as: it is made at once, or its arguments, which are
+/// places, are to be copied first.
+pub fn look_at(cell: Cell, tasks: &mut Vec<Task>, made: &mut Vec<Cell>) -> Result<(), NoMemory>
+    requires { (name : AtomId) (first : Ref) (count : ℕ) → cell ≡ Cell.Comp name first count →
         first.at + count < 2 ^ 64 }
     ensures { OnOk result
-        ((reverse tasks.new.items, reverse made.new.items) ≡ looked_at cell base
+        ((reverse tasks.new.items, reverse made.new.items) ≡ looked_at cell
         (reverse tasks.old.items) (reverse made.old.items)) }
 {
     match cell {
-        Cell::Var(number) => made.push(Cell::Var(number + base))?,
         Cell::Comp { name, first, count } => {
             tasks.push(Task::Build { name, count })?;
             push_copies(tasks, first, count)?;
@@ -67,7 +71,12 @@ fn look_at(
 }
 
 /// Makes a compound whose arguments are the cells that were made last.
-fn build(chains: &mut Chains, name: AtomId, count: u8, made: &mut Vec<Cell>) -> Result<(), NoMemory>
+pub fn build(
+    chains: &mut Chains,
+    name: AtomId,
+    count: u8,
+    made: &mut Vec<Cell>,
+) -> Result<(), NoMemory>
     requires chains { IsChains chains.old }
     requires enough { count ≤ length made.old.items }
     requires ready { AreReady (length chains.old.cells.items) (length chains.old.bound.items)
@@ -120,7 +129,7 @@ fn copy(
     tasks.push(Task::Copy(root))?;
     'tasks: while let Some(task) = tasks.pop() {
         match task {
-            Task::Copy(at) => look_at(from.get(at), base, &mut tasks, &mut made)?,
+            Task::Copy(at) => look_at(numbered_on(from.get(at), base), &mut tasks, &mut made)?,
             Task::Build { name, count } => build(chains, name, count, &mut made)?,
         }
     }

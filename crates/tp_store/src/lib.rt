@@ -9,6 +9,7 @@ mod join;
 mod logged;
 mod order;
 mod pairs;
+mod rename;
 mod solve;
 pub mod store;
 

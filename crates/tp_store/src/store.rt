@@ -13,6 +13,7 @@ ghost use Rattle.tp_store.specs.Copy.{IsClaimed, IsLast, NamesBoth, ShowsCopy};
 ghost use Rattle.tp_store.specs.Logged.{FindsHead, IsBound, KeepsTerms, Logs, LogsHead, unbound};
 ghost use Rattle.tp_store.specs.Joined.{HasRoom, IsCallable, KeepsAtoms, ShowsMore};
 ghost use Rattle.tp_store.specs.Ordered.{IsOrder};
+ghost use Rattle.tp_store.specs.Renamed.{AddsTerms, Copies};
 ghost use Rattle.tp_store.specs.Bodies.{AsksMemory, FindsBody, IsWithin, KeepsNames, KeepsOwn};
 
 use crate::body::body_of;
@@ -22,6 +23,7 @@ use crate::head::unify_head;
 use crate::join::goal_with;
 use crate::logged::unify_logged;
 use crate::order::compare;
+use crate::rename::copy;
 use crate::solve::unifiable;
 use std::alloc::Global;
 use std::cmp::Ordering;
@@ -121,6 +123,30 @@ impl Store {
     {
         let alloc = *self.chains.pairs.allocator();
         instance(&mut self.chains, alloc, from, root, base)
+    }
+
+    /// A place for a copy of the term of a place, seen under the bindings, with new variables: they
+    /// have the next numbers, in order of first occurrence, which are claimed (`copy_term` of
+    /// ISO/IEC 13211-1, clause 8.5.4). No place that stood shows another term afterwards.
+    ///
+    /// Answers `NoMemory` where the memory for it isn't had, and then the store is as before.
+    pub fn copy(&mut self, at: Ref) -> Result<Ref, NoMemory>
+        requires { at.at < length self.old.cells }
+        ensures copied { IfOk result (Copies self.old self.new at) }
+        ensures place { IfOk result (λ copy. copy.at < length self.new.cells) }
+        ensures adds { AddsTerms self.old self.new }
+        ensures keeps { Keeps self.old self.new }
+        ensures err { OnErr result (self.new ≡ self.old) }
+        ensures store { IsStore self.new }
+        ensures named { OnOk result (KeepsAtoms self.old self.new) }
+    {
+        let alloc = *self.chains.pairs.allocator();
+        copy(&mut self.chains, alloc, at)
+    }
+
+    /// What this store takes its memory from.
+    pub fn allocator(&self) -> Global {
+        *self.chains.pairs.allocator()
     }
 
     /// The cells of all places.

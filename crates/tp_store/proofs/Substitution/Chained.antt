@@ -104,6 +104,7 @@ table_at bound pairs v o t lt e = sym (t.kept v) ∙ sym (get_or_default bound v
 
 leads_on : (c : Contents) (v : ℕ) (next : Ref) → IsStore c → bound_in c.pairs v ≡ Some next → LeadsOn c (cell.Var v) next
 leads_on c v next s e = record {
+  bound = (v, e);
   within = (named [] c.cells c.vars c.pairs v next (s.chain []) e).within;
   same = λ names. sym (named names c.cells c.vars c.pairs v next (s.chain names) e).value;
   falls = falls;

@@ -59,7 +59,7 @@ occurs_each-append names c v (r ∷ rs) qs = go (occurs v (seen names c r.at)) (
     go true h = refl
     go false h = h
 
-places_size-places_from : (c : Contents) (a n : ℕ) → places_size c (places_from a n) ≡ terms_size (all_replaced (value_at (subst_of [] c)) (args_at [] c.cells a n))
+pub places_size-places_from : (c : Contents) (a n : ℕ) → places_size c (places_from a n) ≡ terms_size (all_replaced (value_at (subst_of [] c)) (args_at [] c.cells a n))
 places_size-places_from c a zero = refl
 places_size-places_from c a (suc n) = ap (λ k. term_size (seen [] c a) + k) (places_size-places_from c (suc a) n)
 
@@ -75,7 +75,7 @@ pub pairs_size-append : (c : Contents) (ps qs : List (Ref × Ref)) → pairs_siz
 pairs_size-append c [] qs = omega arith
 pairs_size-append c (p ∷ ps) qs = omega (arith, pairs_size-append c ps qs)
 
-AreIn-places_from : (cells : List Cell) (a n : ℕ) → a + n ≤ length cells → AreIn cells (places_from a n)
+pub AreIn-places_from : (cells : List Cell) (a n : ℕ) → a + n ≤ length cells → AreIn cells (places_from a n)
 AreIn-places_from cells a zero h = tt
 AreIn-places_from cells a (suc n) h = (omega arith, AreIn-places_from cells (suc a) n (omega arith))
 
