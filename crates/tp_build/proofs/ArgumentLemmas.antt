@@ -4,29 +4,26 @@ use Rattle.tp_terms.specs.declared.cells.AtomId.{AtomId}
 use Rattle.tp_terms.specs.declared.cells.Ref.{Ref}
 use Rattle.tp_terms.specs.declared.cells.Cell.{Cell}
 use Rattle.tp_terms.specs.declared.cells.Cell.TheVariants as cell
-use Rattle.tp_terms.specs.Term.{Term, Terms, arg_at, all_replaced}
-use Rattle.tp_terms.specs.Shown.{args_at}
-use Rattle.tp_meaning.specs.Subst.{Subst, value_at}
+use Rattle.tp_terms.specs.Term.{Term, Terms, arg_at}
+use Rattle.tp_meaning.specs.Subst.{Subst}
 use Rattle.tp_meaning.specs.Checks.{Checked, ◌>>=◌, ◌>>◌, bound, integer, args_in, natural}
 use Rattle.tp_meaning.specs.Heap.{Heap, IsTop, HasPlaces, seen}
 use Rattle.tp_build.specs.declared.errors.WantedType.TheVariants as type
 use Rattle.tp_build.specs.declared.errors.Fault as errors
 use Rattle.tp_build.specs.declared.errors.Fault.TheVariants as fault
-use Rattle.tp_build.specs.Answers.{Answer, No, unifies}
+use Rattle.tp_build.specs.Answers.{Answer, No, unifies, args_seen}
 use Rattle.tp_build.specs.Errors.{IsFault}
 use Rattle.tp_build.specs.Rows.{IsSimple}
-use Rattle.tp_build.specs.Functor.{arg, arg_unifies, IsNth, Picks}
-use Rattle.tp_build.proofs.CheckLemmas.{args-other}
+use Rattle.tp_meaning.specs.Answers.{arg, arg_unifies}
+use Rattle.tp_build.specs.Functor.{IsNth, Picks}
+use Rattle.tp_build.proofs.CheckLemmas.{args-other, past, past-value}
 
-abbrev row_seen : Heap → ℕ → ℕ → Terms
-row_seen h first count = all_replaced (value_at h.subst) (args_at h.names h.cells first count)
-
-argument-at : (h : Heap) (first count k place : ℕ) → k < count → place ≡ first + k → arg_at (row_seen h first count) k ≡ Some (seen h place)
+argument-at : (h : Heap) (first count k place : ℕ) → k < count → place ≡ first + k → arg_at (args_seen h first count) k ≡ Some (seen h place)
 argument-at h first zero k place lt e = absurd (omega arith)
 argument-at h first (suc n) zero place lt e = let same : first ≡ place = omega arith in ap (λ (p : ℕ). Some (seen h p)) same
 argument-at h first (suc n) (suc k) place lt e = argument-at h (suc first) n k place (omega arith) (omega arith)
 
-argument-none : (h : Heap) (first count k : ℕ) → count ≤ k → arg_at (row_seen h first count) k ≡ None
+argument-none : (h : Heap) (first count k : ℕ) → count ≤ k → arg_at (args_seen h first count) k ≡ None
 argument-none h first zero k le = refl
 argument-none h first (suc n) zero le = absurd (omega arith)
 argument-none h first (suc n) (suc k) le = argument-none h (suc first) n k (omega arith)
@@ -34,19 +31,10 @@ argument-none h first (suc n) (suc k) le = argument-none h (suc first) n k (omeg
 pub places-of : (c : Cell) (name : AtomId) (first : Ref) (count : ℕ) → c ≡ cell.Comp name first count → HasPlaces c → first.at + count < 2 ^ 64
 places-of c name first count e p = subst HasPlaces e p
 
-args-found : (h : Heap) (t : ℕ) (c : Cell) (name : AtomId) (first : Ref) (count : ℕ) → c ≡ cell.Comp name first count → IsTop h t c → args_in (seen h t) ≡ Ok (row_seen h first.at count)
+args-found : (h : Heap) (t : ℕ) (c : Cell) (name : AtomId) (first : Ref) (count : ℕ) → c ≡ cell.Comp name first count → IsTop h t c → args_in (seen h t) ≡ Ok (args_seen h first.at count)
 args-found h t c name first count e top =
     let u : IsTop h t (cell.Comp name first count) = subst (IsTop h t) e top in
-    subst (λ x. args_in x ≡ Ok (row_seen h first.at count)) u.same refl
-
-past : {A : Type 0} (c : Checked (Unit {0})) (r : Checked A) → c ≡ Ok tt → (c >> r) ≡ r
-past c r e = ap (λ d. d >> r) e
-
-past-value : {A B : Type 0} (c : Checked A) (g : A → Checked B) (a : A) → c ≡ Ok a → (c >>= g) ≡ g a
-past-value c g a e = ap (λ d. d >>= g) e
-
-stops : {A : Type 0} (h : Heap) (c r : Checked A) (f : errors.Fault) → c ≡ r → IsFault h r f → IsFault h c f
-stops h c r f e i = record { kind = e ∙ i.kind; stands = i.stands }
+    subst (λ x. args_in x ≡ Ok (args_seen h first.at count)) u.same refl
 
 module _ (s : Subst) (next : ℕ) (n t x : Term) where
   rest-t : Checked Answer
@@ -96,16 +84,16 @@ picks-no_args h n t c z f e1 e2 e3 e other top s next x = no-args s next (seen h
 pub picks-no_number : (h : Heap) (n t : ℕ) (c : Cell) (name : AtomId) (first : Ref) (count : ℕ) (z : ℤ) (f : errors.Fault) → bound (seen h n) ≡ Ok tt → bound (seen h t) ≡ Ok tt → integer (seen h n) ≡ Ok z
     → c ≡ cell.Comp name first count → IsTop h t c → IsFault h (natural z) f → Picks h n t (Err f)
 picks-no_number h n t c name first count z f e1 e2 e3 e top i s next x =
-    no-number s next (seen h n) (seen h t) x h z (row_seen h first.at count) f e1 e2 e3 (args-found h t c name first count e top) i
+    no-number s next (seen h n) (seen h t) x h z (args_seen h first.at count) f e1 e2 e3 (args-found h t c name first count e top) i
 
 pub picks : (h : Heap) (n t : ℕ) (c : Cell) (name : AtomId) (first : Ref) (count : ℕ) (z : ℤ) (k : ℕ) (o : Option Ref) → bound (seen h n) ≡ Ok tt → bound (seen h t) ≡ Ok tt → integer (seen h n) ≡ Ok z
     → c ≡ cell.Comp name first count → IsTop h t c → natural z ≡ Ok k → IsNth first.at count k o → Picks h n t (Ok o)
 picks h n t c name first count z zero None e1 e2 e3 e top e5 i = λ s next x.
-    to-end s next (seen h n) (seen h t) x z (row_seen h first.at count) 0 e1 e2 e3 (args-found h t c name first count e top) e5
+    to-end s next (seen h n) (seen h t) x z (args_seen h first.at count) 0 e1 e2 e3 (args-found h t c name first count e top) e5
 picks h n t c name first count z (suc k) None e1 e2 e3 e top e5 i =
     let gone : count < suc k = i (omega arith) in
     λ s next x.
-    to-end s next (seen h n) (seen h t) x z (row_seen h first.at count) (suc k) e1 e2 e3 (args-found h t c name first count e top) e5
+    to-end s next (seen h n) (seen h t) x z (args_seen h first.at count) (suc k) e1 e2 e3 (args-found h t c name first count e top) e5
     ∙ ap (λ (o : Option Term). Ok (elim o as (λ _. Answer) [ None ↦ No | Some y ↦ unifies s next x y ])) (argument-none h first.at count k (omega arith))
 picks h n t c name first count z zero (Some place) e1 e2 e3 e top e5 i = absurd (let lt = i.0 in omega arith)
 picks h n t c name first count z (suc k) (Some place) e1 e2 e3 e top e5 i =
@@ -115,6 +103,6 @@ picks h n t c name first count z (suc k) (Some place) e1 e2 e3 e top e5 i =
     let all = u.stands.before.1 in (
       omega arith,
       λ s next x.
-          to-end s next (seen h n) (seen h t) x z (row_seen h first.at count) (suc k) e1 e2 e3 (args-found h t c name first count e top) e5
+          to-end s next (seen h n) (seen h t) x z (args_seen h first.at count) (suc k) e1 e2 e3 (args-found h t c name first count e top) e5
           ∙ ap (λ (o : Option Term). Ok (elim o as (λ _. Answer) [ None ↦ No | Some y ↦ unifies s next x y ])) (argument-at h first.at count k place.at (omega arith) (omega arith)),
     )

@@ -4,3 +4,8 @@ pub mod CheckLemmas
 pub mod ArgumentLemmas
 pub mod Seen
 pub mod Rows
+pub mod FamilyLemmas
+pub mod FunctorLemmas
+pub mod ListLemmas
+pub mod PartsLemmas
+pub mod CodesLemmas

@@ -1,18 +1,20 @@
 -- What heaps show of a row's answer.
-use Rattle.std.proofs.Common.{◌≡◌, ◌++◌, ℕ, Bool, true, false, not, Option, Some, None, Ok, Err, refl, sym, ap, subst, ◌∙◌, arith, append_assoc, ◌+◌}
-use Rattle.std.specs.Prelude.{ℤ, ◌<◌, length, Result, IfOk, is_some, is_none, if◌then◌else◌}
+use Rattle.std.proofs.Common.{◌≡◌, ◌++◌, ℕ, Bool, true, false, not, Option, Some, None, Ok, Err, refl, sym, ap, subst, ◌∙◌, arith, append_assoc, ◌+◌, suc}
+use Rattle.std.specs.Prelude.{ℤ, pos, ◌<◌, length, Result, IfOk, is_some, is_none, if◌then◌else◌}
+use Rattle.tp_terms.specs.declared.cells.AtomId.{AtomId}
 use Rattle.tp_terms.specs.declared.cells.Ref.{Ref}
 use Rattle.tp_terms.specs.declared.cells.Cell.{Cell}
 use Rattle.tp_terms.specs.declared.cells.Cell.TheVariants as cell
 use Rattle.tp_terms.specs.Term.{Name, Term, Terms, Int, Comp}
-use Rattle.tp_terms.specs.Names.{Grows}
-use Rattle.tp_terms.proofs.NameLemmas.{Grows-same, Grows-trans}
+use Rattle.tp_terms.specs.Names.{Grows, StandsAt}
+use Rattle.tp_terms.proofs.NameLemmas.{Grows-same, Grows-trans, name_at-slice_get}
 use Rattle.tp_meaning.specs.Subst.{apply, mgu}
 use Rattle.tp_meaning.specs.Copy.{copy_of}
 use Rattle.tp_meaning.specs.Checks.{Checked, ◌>>=◌}
 use Rattle.tp_meaning.specs.Arith.{compared, evaluated, value}
 use Rattle.tp_meaning.proofs.Applied.{apply-twice}
 use Rattle.tp_meaning.proofs.Unify.{unbound}
+use Rattle.tp_meaning.proofs.TrailLemmas.{trail-same, trail-trans}
 use Rattle.tp_meaning.proofs.HeapLemmas.{adds-cell, seen-kept, shown-placed}
 use Rattle.tp_arith.specs.declared.Relation.{Relation}
 use Rattle.tp_arith.specs.Values.{holds, Evaluates}
@@ -21,10 +23,19 @@ use Rattle.tp_arith.specs.declared.raising.Raise.TheVariants.{Raised}
 use Rattle.tp_meaning.specs.Heap.{IsTop, IsUnbound, cell_shown, cell_seen, with_cell, Heap, IsHeap, AddsCells, AddsBindings, Copies, FindsUnifier, IsUnifiable, shown, seen}
 use Rattle.tp_build.specs.declared.outcome.Outcome.{Outcome}
 use Rattle.tp_build.specs.declared.outcome.Outcome.TheVariants as outcome
-use Rattle.tp_build.specs.Answers.{Answer, Yes, No, unifies, Does, HeapGrows}
+use Rattle.tp_terms.specs.declared.NoMemory.{NoMemory}
+use Rattle.tp_meaning.specs.declared.goals.BuiltId.{BuiltId}
+use Rattle.tp_meaning.specs.Builtin.{of_args}
+use Rattle.tp_build.specs.declared.families.GoalOfTwo.{GoalOfTwo}
+use Rattle.tp_build.specs.declared.families.Family.TheVariants as family
+use Rattle.tp_build.specs.Families.{IsOf, row_of_two, argument_count}
+use Rattle.tp_build.specs.Answers.{Answer, Yes, No, unifies, Does, HeapGrows, args_seen}
 use Rattle.tp_build.specs.declared.kinds.Kind.{Kind}
 use Rattle.tp_build.specs.declared.kinds.Kind.TheVariants as kind
-use Rattle.tp_build.specs.Builtin.{succeeds, copies, compares, is_of, is_value}
+use Rattle.tp_meaning.specs.Answers.{succeeds, atom_length}
+use Rattle.tp_build.specs.Names.{Measures}
+use Rattle.tp_meaning.specs.Builtin.{copies, is_value}
+use Rattle.tp_build.specs.Builtin.{compares, is_of}
 use Rattle.tp_build.proofs.Seen.{mgu-seen, unifies-seen}
 
 same-names : (h k : Heap) → k.names ≡ h.names → Grows h.names k.names
@@ -32,14 +43,14 @@ same-names h k e = subst (λ names. Grows h.names names) (sym e) (Grows-same h.n
 
 -- cells were added, and maybe bindings
 pub grows-cells : (h k : Heap) → AddsCells h k → HeapGrows h k
-grows-cells h k a = record { more = a.more; cells = a.cells; names = same-names h k a.names; next = omega (arith, a.next) }
+grows-cells h k a = record { more = a.more; cells = a.cells; names = same-names h k a.names; next = omega (arith, a.next); trail = trail-same h.trail k.trail a.trail }
 
 pub grows-bindings : (h k : Heap) → AddsBindings h k → HeapGrows h k
-grows-bindings h k a = record { more = a.more; cells = a.cells; names = same-names h k a.names; next = omega (arith, a.next) }
+grows-bindings h k a = record { more = a.more; cells = a.cells; names = same-names h k a.names; next = omega (arith, a.next); trail = a.trail }
 
 -- a copy was made
 pub grows-copy : (h k : Heap) (at place : ℕ) → Copies h k at place → HeapGrows h k
-grows-copy h k at place a = record { more = a.more; cells = a.cells; names = same-names h k a.names; next = omega (arith, a.next) }
+grows-copy h k at place a = record { more = a.more; cells = a.cells; names = same-names h k a.names; next = omega (arith, a.next); trail = trail-same h.trail k.trail a.trail }
 
 pub grows-trans : (h k l : Heap) → HeapGrows h k → HeapGrows k l → HeapGrows h l
 grows-trans h k l a b = record {
@@ -47,6 +58,7 @@ grows-trans h k l a b = record {
   cells = b.cells ∙ ap (λ cs. cs ++ b.more) a.cells ∙ append_assoc h.cells a.more b.more;
   names = Grows-trans h.names k.names l.names a.names b.names;
   next = let p = a.next in let q = b.next in omega arith;
+  trail = trail-trans h.trail k.trail l.trail a.trail b.trail;
 }
 
 -- the terms of two places have this unifier, or none
@@ -135,7 +147,7 @@ does-copy h k l t c at o copied lt d = does-later h k l (unifies k.subst k.next 
     cells_only = record k { next = h.next }
 
     adds : AddsCells h cells_only
-    adds = record { more = copied.more; cells = copied.cells; subst = copied.subst; next = refl; names = copied.names }
+    adds = record { more = copied.more; cells = copied.cells; subst = copied.subst; next = refl; names = copied.names; trail = copied.trail }
 
     kept : seen k c ≡ seen h c
     kept = seen-kept h cells_only adds c lt
@@ -178,3 +190,27 @@ is-raised-by h k x e r at eq is v adds = let w = subst (λ q. Evaluates {A = ℤ
 
 pub compares-raised-by : (h k : Heap) (s : Relation) (x y : ℕ) (r : Raise) (at : Ref) → r ≡ Raised at → IsHeap h → Evaluates {A = Bool} k (compared (holds s) h.subst (shown h x) (shown h y)) (Err r) → AddsCells h k → Does h k (compares s h.subst h.next (seen h x) (seen h y)) (outcome.Raise at)
 compares-raised-by h k s x y r at eq is v adds = let w = subst (λ q. Evaluates {A = Bool} k (compared (holds s) h.subst (shown h x) (shown h y)) (Err q)) eq v in compares-raised h k s x y at is w.0 w.1 adds
+
+-- ---- goals by the number of their arguments
+
+-- the row of a goal with two arguments is that of the built-in
+pub two-does : (h k : Heap) (id : BuiltId) (goal : GoalOfTwo) (first y : ℕ) (r : Result Outcome NoMemory) → IsOf id (family.Two goal) → y ≡ first + 1 → IfOk r (Does h k (row_of_two goal h.subst h.next (seen h first) (seen h y)))
+    → IfOk r (Does h k (of_args id h.subst h.next (args_seen h first (argument_count id))))
+two-does h k id goal first y r is e d = subst (λ c. IfOk r (Does h k c)) (sym same) d
+  where
+    next_to : suc first ≡ y
+    next_to = omega arith
+
+    same : of_args id h.subst h.next (args_seen h first (argument_count id)) ≡ row_of_two goal h.subst h.next (seen h first) (seen h y)
+    same =
+        ap (λ n. of_args id h.subst h.next (args_seen h first n)) is.0
+        ∙ is.1 h.subst h.next (seen h first) (seen h (suc first))
+        ∙ ap (λ p. row_of_two goal h.subst h.next (seen h first) (seen h p)) next_to
+
+-- ---- lengths
+
+-- the length of an atom is unified
+pub length-does : (h l : Heap) (a n : ℕ) (name : AtomId) (text : Name) (z : ℤ) (r : Result Outcome NoMemory) → Measures h a n (Ok name) → StandsAt h.names name.at text → z ≡ pos (length text) → IfOk r (Does h l (Ok (unifies h.subst h.next (seen h n) (Int z))))
+    → IfOk r (Does h l (atom_length h.subst h.next (seen h a) (seen h n)))
+length-does h l a n name text z r m stands e d =
+    subst (λ c. IfOk r (Does h l c)) (sym (m.1 h.subst h.next)) (subst (λ x. IfOk r (Does h l (Ok (unifies h.subst h.next (seen h n) (Int x))))) (e ∙ ap (λ name. pos (length name)) (sym (name_at-slice_get h.names name.at text stands))) d)

@@ -1,11 +1,8 @@
 -- Unifiers of terms that are seen.
-use Rattle.std.proofs.Common.{◌≡◌, ℕ, zero, suc, ◌+◌, Bool, true, false, [], ◌∷◌, Some, None, Ok, refl, sym, ap, ◌∙◌, if◌then◌else◌}
-use Rattle.std.specs.Prelude.{Result, ◌≢◌}
+use Rattle.std.proofs.Common.{◌≡◌, ℕ, zero, suc, ◌+◌, [], ◌∷◌, None, refl, ap, ◌∙◌}
 use Rattle.tp_terms.specs.Term.{Term, term_size}
 use Rattle.tp_meaning.specs.Subst.{Subst, IsSubst, Next, apply, mgu, rounds, walk, solve_pair}
-use Rattle.tp_meaning.specs.Heap.{Heap, AddsCells, FindsUnifier, shown, seen}
 use Rattle.tp_meaning.proofs.Applied.{apply-twice}
-use Rattle.tp_build.specs.Answers.{Answer, Yes, No, unifies}
 
 -- terms that are seen alike have the same unifier
 pub mgu-same : (s : Subst) (a b c d : Term) → apply s a ≡ apply s c → apply s b ≡ apply s d → mgu s a b ≡ mgu s c d
@@ -27,19 +24,3 @@ mgu-same s a b c d e f =
 -- a unifier of terms that are seen is one of the terms
 pub mgu-seen : (s : Subst) (a b : Term) → IsSubst s → mgu s (apply s a) (apply s b) ≡ mgu s a b
 mgu-seen s a b is = mgu-same s (apply s a) (apply s b) a b (apply-twice s a is.idem) (apply-twice s b is.idem)
-
--- what a call of `unify` answers is what the goal does
-pub unified : (h k : Heap) (a b : ℕ) (found : Bool) → IsSubst h.subst → FindsUnifier h k a b found → k.next ≡ h.next → found ≡ true → unifies h.subst h.next (seen h a) (seen h b) ≡ Yes k.subst k.next
-unified h k a b found is finds next e =
-    let some : mgu h.subst (seen h a) (seen h b) ≡ Some k.subst =
-    mgu-seen h.subst (shown h a) (shown h b) is ∙ finds ∙ ap (λ q. if q then Some k.subst else None) e in
-    ap (λ o. elim o as (λ _. Answer) [ None ↦ No | Some u ↦ Yes u h.next ]) some ∙ ap (Yes k.subst) (sym next)
-
-pub apart : (h k : Heap) (a b : ℕ) (found : Bool) → IsSubst h.subst → FindsUnifier h k a b found → found ≡ false → unifies h.subst h.next (seen h a) (seen h b) ≡ No
-apart h k a b found is finds e =
-    let none : mgu h.subst (seen h a) (seen h b) ≡ None =
-    mgu-seen h.subst (shown h a) (shown h b) is ∙ finds ∙ ap (λ q. if q then Some k.subst else None) e in
-    ap (λ o. elim o as (λ _. Answer) [ None ↦ No | Some u ↦ Yes u h.next ]) none
-
-pub kept : {E : Type 0} (h k : Heap) (r : Result Bool E) (found : Bool) → r ≡ Ok found → (r ≢ Ok true → AddsCells h k) → found ≡ false → k.subst ≡ h.subst
-kept h k r found e u is = (u (λ q. cc)).subst

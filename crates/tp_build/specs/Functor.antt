@@ -1,27 +1,17 @@
--- `functor/3` and `arg/3`.
-use Rattle.std.specs.Prelude.{◌≡◌, ℕ, zero, suc, ◌+◌, ◌<◌, ◌≤◌, length, Option, Some, None, Result, Ok, Err}
+-- The argument that `arg` asks for, and the compounds that `functor` makes.
+use Rattle.std.specs.Prelude.{◌≡◌, ℕ, zero, suc, ◌+◌, ◌<◌, ◌≤◌, List, [], ◌∷◌, ◌++◌, length, Option, Some, None, Result, Ok, Err}
 use Rattle.tp_terms.specs.declared.cells.Ref.{Ref}
-use Rattle.tp_terms.specs.Term.{Term, Terms, arg_at}
+use Rattle.tp_terms.specs.declared.cells.Cell.{Cell}
+use Rattle.tp_terms.specs.declared.cells.Cell.TheVariants as cell
+use Rattle.tp_terms.specs.Term.{Term, Comp}
+use Rattle.tp_terms.specs.Shown.{name_at}
 use Rattle.tp_meaning.specs.Subst.{Subst}
-use Rattle.tp_meaning.specs.Checks.{Checked, ◌>>=◌, ◌>>◌, bound, integer, args_in, natural}
-use Rattle.tp_meaning.specs.Heap.{Heap, seen}
+use Rattle.tp_meaning.specs.Checks.{Checked, ◌>>=◌, ◌>>◌, bound, integer, atomic}
+use Rattle.tp_meaning.specs.Heap.{Heap, seen, shown}
+use Rattle.tp_meaning.specs.Answers.{No, unifies, arg, variables_from}
 use Rattle.tp_build.specs.declared.errors.Fault.{Fault}
-use Rattle.tp_build.specs.Answers.{Answer, No, unifies}
 use Rattle.tp_build.specs.Errors.{IsFault}
-
--- the argument of a number from 1
-abbrev pub arg_unifies : Subst → ℕ → ℕ → Terms → Term → Answer
-arg_unifies s next zero ts x = No
-arg_unifies s next (suc k) ts x = elim (arg_at ts k) [ None ↦ No | Some t ↦ unifies s next x t ]
-
-abbrev pub arg : Subst → ℕ → Term → Term → Term → Checked Answer
-arg s next n t x = do
-  bound n
-  bound t
-  z ← integer n
-  ts ← args_in t
-  k ← natural z
-  Ok (arg_unifies s next k ts x)
+use Rattle.tp_build.specs.Names.{natural_in, fitting_arity}
 
 -- the place of the argument of a number from 1, where so many stand from a place on
 abbrev pub IsNth : ℕ → ℕ → ℕ → Option Ref → Type 0
@@ -39,3 +29,36 @@ Picks h n t (Ok None) =
     (s : Subst) (next : ℕ) (x : Term) → arg s next (seen h n) (seen h t) x ≡ Ok No
 Picks h n t (Err f) =
     (s : Subst) (next : ℕ) (x : Term) → IsFault h (arg s next (seen h n) (seen h t) x) f
+
+-- ---- functor
+
+-- the number of arguments that a new compound of a name is to have
+abbrev pub arity_wanted : Term → Term → Checked ℕ
+arity_wanted n a = do
+  bound n
+  bound a
+  z ← integer a
+  atomic n
+  k ← natural_in a
+  fitting_arity k
+
+-- the cells of so many variables from a number on
+abbrev pub variable_cells : ℕ → ℕ → List Cell
+variable_cells v zero = []
+variable_cells v (suc n) = cell.Var v ∷ variable_cells (v + 1) n
+
+-- so many further cells with new variables
+abbrev pub with_variables : Heap → ℕ → Heap
+with_variables h n =
+    record h { cells = h.cells ++ variable_cells h.next n; next = h.next + n }
+
+-- a further place shows the compound of a name and so many new variables
+pub record MakesCompound (old new : Heap) (name count at : ℕ) : Type 0 where
+  pub more : List Cell
+  pub cells : new.cells ≡ old.cells ++ more
+  pub subst : new.subst ≡ old.subst
+  pub next : new.next ≡ old.next + count
+  pub trail : new.trail ≡ old.trail
+  pub names : new.names ≡ old.names
+  pub within : at < length new.cells
+  pub compound : shown new at ≡ Comp (name_at old.names name) (variables_from old.next count)

@@ -2,4 +2,9 @@ pub mod Answers
 pub mod Errors
 pub mod Rows
 pub mod Functor
+pub mod Names
+pub mod Lists
+pub mod Parts
+pub mod Codes
 pub mod Builtin
+pub mod Families

@@ -3,12 +3,13 @@
 ghost use Rattle.std.specs.Prelude.{◌≡◌, ◌+◌, ◌^◌, ◌<◌, ℕ, length, OnErr, IfOk};
 ghost use Rattle.tp_meaning.specs.Heap.{Heap, HasPlaces, IsHeap, IsTop, seen};
 ghost use Rattle.tp_build.specs.Answers.{Does, HeapGrows};
-ghost use Rattle.tp_build.specs.Functor.{IsNth, Picks, arg};
+ghost use Rattle.tp_meaning.specs.Answers.{arg};
+ghost use Rattle.tp_build.specs.Functor.{IsNth, Picks};
 
-use crate::answers::unify_places;
 use crate::checks::{arguments, bound, integer, natural};
 use crate::errors::{Fault, raise};
 use crate::outcome::Outcome;
+use crate::unification::unify;
 use tp_meaning::Terms;
 use tp_terms::{Cell, NoMemory, Ref};
 
@@ -63,7 +64,7 @@ pub fn arg<T: Terms>(
     ensures heap { IsHeap (T.heap terms.new) }
 {
     match chosen(terms.look(number), terms.look(of)) {
-        Ok(Some(place)) => unify_places(terms, argument, place),
+        Ok(Some(place)) => unify(terms, argument, place),
         Ok(None) => Ok(Outcome::No),
         Err(fault) => raise(terms, fault),
     }

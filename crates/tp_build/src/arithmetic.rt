@@ -4,7 +4,8 @@ ghost use Rattle.std.specs.Prelude.{◌≡◌, ◌<◌, length, Ok, IfOk, OnErr}
 ghost use Rattle.tp_terms.specs.Term.{Int};
 ghost use Rattle.tp_meaning.specs.Heap.{IsHeap, seen};
 ghost use Rattle.tp_build.specs.Answers.{Does, HeapGrows, unifies};
-ghost use Rattle.tp_build.specs.Builtin.{compares, is_value};
+ghost use Rattle.tp_meaning.specs.Builtin.{is_value};
+ghost use Rattle.tp_build.specs.Builtin.{compares};
 
 use crate::decided::decided;
 use crate::outcome::Outcome;
@@ -15,7 +16,10 @@ use tp_meaning::Terms;
 use tp_terms::{Cell, NoMemory, Ref};
 
 /// Unifies the term of a place with a number.
-fn unify_number<T: Terms>(terms: &mut T, x: Ref, value: i64) -> Result<Outcome, NoMemory>
+///
+/// # Errors
+/// `NoMemory` where memory was refused, and then nothing is bound.
+pub fn unify_number<T: Terms>(terms: &mut T, x: Ref, value: i64) -> Result<Outcome, NoMemory>
     requires heap { IsHeap (T.heap terms.old) }
     requires x { x.at < length (T.heap terms.old).cells }
     ensures does { IfOk result (Does (T.heap terms.old) (T.heap terms.new)

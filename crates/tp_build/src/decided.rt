@@ -3,7 +3,7 @@
 ghost use Rattle.std.specs.Prelude.{◌≡◌, Ok};
 ghost use Rattle.tp_meaning.specs.Heap.{Heap};
 ghost use Rattle.tp_build.specs.Answers.{Does};
-ghost use Rattle.tp_build.specs.Builtin.{succeeds};
+ghost use Rattle.tp_meaning.specs.Answers.{succeeds};
 
 use crate::outcome::Outcome;
 

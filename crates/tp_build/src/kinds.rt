@@ -3,7 +3,9 @@
 ghost use Rattle.std.specs.Prelude.{◌≡◌, ◌<◌, length, Ok};
 ghost use Rattle.tp_meaning.specs.Heap.{Heap, IsHeap, cell_shown, seen};
 ghost use Rattle.tp_build.specs.Answers.{Does};
-ghost use Rattle.tp_build.specs.Builtin.{is_atom, is_compound, is_integer, is_of, is_variable, succeeds};
+ghost use Rattle.tp_meaning.specs.Answers.{succeeds};
+ghost use Rattle.tp_meaning.specs.Builtin.{is_atom, is_compound, is_integer, is_variable};
+ghost use Rattle.tp_build.specs.Builtin.{is_of};
 
 use crate::decided::decided;
 use crate::outcome::Outcome;

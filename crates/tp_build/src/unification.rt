@@ -3,7 +3,7 @@
 ghost use Rattle.std.specs.Prelude.{◌≡◌, ◌<◌, length, Ok, IfOk, OnErr};
 ghost use Rattle.tp_meaning.specs.Heap.{IsHeap, seen};
 ghost use Rattle.tp_build.specs.Answers.{Does, HeapGrows, unifies};
-ghost use Rattle.tp_build.specs.Builtin.{copies, differs};
+ghost use Rattle.tp_meaning.specs.Builtin.{copies, differs};
 
 use crate::decided::decided;
 use crate::outcome::Outcome;

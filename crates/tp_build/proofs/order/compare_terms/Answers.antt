@@ -1,6 +1,7 @@
 use Rattle.std.proofs.Common.{Ok, subst, ap, ◌∙◌}
 use Rattle.tp_build.specs.Answers.{Does}
-use Rattle.tp_build.specs.Builtin.{in_order, succeeds}
+use Rattle.tp_meaning.specs.Answers.{succeeds}
+use Rattle.tp_build.specs.Builtin.{in_order}
 use Rattle.tp_build.proofs.order.compare_terms.Goals as goal
 
 pub returns-clause-does : goal.returns-clause-does
