@@ -19,3 +19,5 @@ pub mod Cut
 pub mod Matched
 pub mod Later
 pub mod SamePrograms
+pub mod Lent
+pub mod Again

@@ -15,3 +15,4 @@ pub mod Clauses
 pub mod Equal
 pub mod Counted
 pub mod Back
+pub mod BuiltIns

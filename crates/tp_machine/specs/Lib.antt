@@ -13,3 +13,4 @@ pub mod Calling
 pub mod Between
 pub mod Chooses
 pub mod Start
+pub mod BuiltIns

@@ -193,3 +193,17 @@ pub fn raised(store: &mut Store, cause: Cause, process: AtomId) -> Result<Ref, N
     let place = error(store, kind, process)?;
     Ok(place)
 }
+
+/// The place of an error of the kind that a place shows, as a process raises it.
+pub fn raised_kind(store: &mut Store, kind: Ref, process: AtomId) -> Result<Ref, NoMemory>
+    requires { kind.at < length store.old.cells }
+    ensures { IfOk result (λ place. (names : List Name) → IsTable names →
+        AreNamed (length names) store.old.cells → process.at < length names →
+        Built names store.old store.new place.at
+        (error (shows names store.old.cells kind.at) (name_at names process.at))) }
+{
+    let cell = store.cells().get(kind);
+    let last = store.place(cell)?;
+    let place = error(store, last, process)?;
+    Ok(place)
+}

@@ -4,6 +4,7 @@
 
 mod begin;
 mod between;
+mod built_ins;
 mod call;
 mod clauses;
 mod control;
@@ -18,6 +19,7 @@ mod parts;
 mod schedule;
 mod stepped;
 mod task;
+mod values;
 
 pub use machine::Machine;
 pub use stepped::Stepped;

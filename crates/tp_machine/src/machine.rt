@@ -13,6 +13,7 @@ use tp_control::{Alt, Choices};
 use tp_parse::ReadTerm;
 use tp_state::State;
 use tp_terms::{Atoms, NoMemory};
+use tp_view::View;
 
 /// A search under way: the clauses, the goal and the names that it runs on, the contents of the
 /// current world with its stamp, and the choices that stand open, the newest last.
@@ -26,6 +27,9 @@ pub struct Machine<'a> {
     pub choices: Choices,
     /// After going back: what is next in the choice whose contents these are.
     pub waiting: Option<Alt>,
+    /// Where the terms, the log and the names stand while a built-in goal runs; nothing else
+    /// looks here.
+    pub view: View,
 }
 
 impl<'a> Machine<'a> {
@@ -48,6 +52,7 @@ impl<'a> Machine<'a> {
     {
         // Its contract says what holds of every base.
         let _cells = base.cells();
+        let view = View::start(alloc)?;
         let Some(state) = first_state(alloc, goal)? else {
             return Ok(None);
         };
@@ -59,6 +64,7 @@ impl<'a> Machine<'a> {
             stamp: 0,
             choices: Choices::new(alloc),
             waiting: None,
+            view,
         }))
     }
 

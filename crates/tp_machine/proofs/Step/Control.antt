@@ -8,7 +8,7 @@ use Rattle.tp_meaning.specs.Control.{arg, if_then}
 use Rattle.tp_meaning.specs.declared.goals.GoalKind.{GoalKind}
 use Rattle.tp_meaning.specs.declared.goals.GoalKind.TheVariants.{Control}
 use Rattle.tp_meaning.specs.declared.goals.GoalKind.TheVariants as kind
-use Rattle.tp_meaning.specs.declared.goals.ControlGoal.{ControlGoal}
+use Rattle.tp_meaning.specs.declared.goals.ProcessGoal.{ProcessGoal}
 use Rattle.tp_meaning.specs.Goals.{goal_kind}
 use Rattle.tp_meaning.specs.Checks.{unknown}
 use Rattle.tp_meaning.specs.declared.goals.ControlGoal.TheVariants as control
@@ -168,10 +168,6 @@ is_unknown m t c k h e =
       unknown = λ w b. ap (goal_by (base_in m) w b f args) (ap (goal_kind f) number ∙ h.kind) ∙ e w b f args;
     }
 
-pub not_control : (m : Machine) (t : Task) (c : Call) (k : GoalKind) → Calls m t c (Some k) → ((g : ControlGoal) → k ≡ Control g → ⊥) → IsUnknown m t c.name.at c.count
-not_control m t c k h x = is_unknown m t c k h (go k x)
-  where
-    go : (k : GoalKind) → ((g : ControlGoal) → k ≡ Control g → ⊥) → (w : Turn) (b : ℕ) (f : Name) (ts : Terms) → goal_by (base_in m) w b f ts (Some k) ≡ Err (unknown f (count_of ts))
-    go (Control g) x w b f ts = absurd (x g refl)
-    go (kind.Process g) x w b f ts = refl
-    go (kind.BuiltIn g) x w b f ts = refl
+-- so is a goal of processes
+pub not_there : (m : Machine) (t : Task) (c : Call) (g : ProcessGoal) → Calls m t c (Some (kind.Process g)) → IsUnknown m t c.name.at c.count
+not_there m t c g h = is_unknown m t c (kind.Process g) h (λ w b f ts. refl)
