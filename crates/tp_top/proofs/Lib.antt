@@ -1,3 +1,4 @@
+pub mod WrittenLemmas
 pub mod RunLemmas
 pub mod StoreUnderLemmas
 pub mod RunAnswers

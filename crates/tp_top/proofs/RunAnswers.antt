@@ -1,10 +1,8 @@
--- What a run prepares is what is expected.
-use Rattle.std.proofs.Common.{◌≡◌, ℕ, ◌+◌, ◌<◌, ◌≤◌, ◌++◌, append-nil, append_assoc, string_bytes, List, [], ◌∷◌, length, map, Option, Some, None, MatchOption, is_some, nat_eq, Bool, true, false, true≢false, cond, refl, ap, sym, ◌∙◌, subst, inl, Result, Ok, Err, IfOk, IsTrue, chars}
+-- What the parts of a run answer is what is expected.
+use Rattle.std.proofs.Common.{◌≡◌, ℕ, ◌+◌, ◌<◌, ◌≤◌, ◌++◌, List, [], ◌∷◌, length, map, Option, Some, None, is_some, nat_eq, Bool, true, false, true≢false, cond, refl, ap, sym, ◌∙◌, subst, arith, codes, encode_utf8, encode_utf8_all, length-append, Result, Ok, Err, IfOk, IsTrue}
 use Rattle.std.proofs.lemmas.Bool.{le-ltb, lt-ltb}
-use Rattle.std.proofs.lemmas.Str.{chars-nil}
-use Rattle.std.specs.Prelude.{nat_lt}
-use Rattle.tp_outside.specs.Files.{Files, held_under}
-use Rattle.tp_outside.specs.Text.{HoldsMore, ReadsAll}
+use Rattle.std.proofs.lemmas.Str.{encodes-append, len_utf8_bounds, length-encode}
+use Rattle.std.specs.Prelude.{nat_lt, decimal}
 use Rattle.tp_terms.specs.declared.text.Named.{Named}
 use Rattle.tp_terms.specs.Term.{Name, Term}
 use Rattle.tp_terms.specs.Names.{Grows}
@@ -14,7 +12,7 @@ use Rattle.tp_meaning.specs.Machine.{State, closed}
 use Rattle.tp_meaning.specs.Search.{Outcome, End, Fails, Stopped, Raised, Budget, try}
 use Rattle.tp_meaning.specs.Step.{search, searched}
 use Rattle.tp_meaning.specs.World.{World}
-use Rattle.tp_parse.specs.Ops.{Entries, table_of}
+use Rattle.tp_parse.specs.Ops.{table_of}
 use Rattle.tp_parse.specs.Table.{Table}
 use Rattle.tp_parse.specs.Tells.{Tells, TellsGoal, named_of}
 use Rattle.tp_parse.specs.Texts as read
@@ -35,8 +33,7 @@ use Rattle.tp_clauses.specs.declared.fault.LoadFault.{LoadFault}
 use Rattle.tp_clauses.specs.declared.fault.LoadFault.TheVariants as loading
 use Rattle.tp_engine.specs.declared.run.Ended as engine
 use Rattle.tp_engine.specs.Ended.{Finds, end_of, outcome_of}
-use Rattle.tp_engine.specs.Answers as taken
-use Rattle.tp_engine.specs.Answers.{Took, numbered}
+use Rattle.tp_engine.specs.Answers.{numbered}
 use Rattle.tp_machine.specs.Program.{goal_term}
 use Rattle.tp_engine.specs.Told.{IsSame, IsStarted, Told, world_in}
 use Rattle.tp_report.specs.declared.end.EndLine.{EndLine}
@@ -45,15 +42,16 @@ use Rattle.tp_top.specs.declared.program.Status.{Status}
 use Rattle.tp_top.specs.declared.program.Status.TheVariants as status
 use Rattle.tp_top.specs.Report.{Counts, counts_of, answers_text, end_by, with_last, report}
 use Rattle.tp_top.specs.Replies.{counts_in}
-use Rattle.tp_report.specs.Report.{world_answer_text}
-use Rattle.tp_top.specs.declared.lines.Lines.{Lines}
-use Rattle.tp_top.specs.Told.{AddsAnswer, found_in, for_read, model_in}
-use Rattle.tp_top.specs.Expected.{Request, request, Answer, budget, found, named_in, for_found, for_goal, for_model, for_text, for_held, expected_of, usage, too_long, model_refused, goal_refused}
-use Rattle.tp_top.specs.Ended.{IsPlain, OfUsage, OfExpected, Prepared}
+use Rattle.tp_outside.specs.Taken.{added}
+use Rattle.tp_engine.specs.declared.answers.AnswerFault.{AnswerFault}
+use Rattle.tp_report.specs.Report.{line}
+use Rattle.tp_report.specs.End.{after_text, counts_text, last_line}
+use Rattle.std.specs.Fmt.{signed_decimal}
+use Rattle.tp_top.specs.Told.{found_in, for_read, model_in, shown_bytes}
+use Rattle.tp_top.specs.Written.{Writes}
+use Rattle.tp_top.proofs.WrittenLemmas.{later_writes, shown-answers}
+use Rattle.tp_top.specs.Expected.{Request, Answer, found, named_in, for_found, for_goal, for_model, for_text, usage, too_long, model_refused, goal_refused, cause_word}
 use Rattle.tp_machine.proofs.Worlds.Names.{base-later}
-
-some_same : {X : Type 0} (x y : X) → Some x ≡ Some y → x ≡ y
-some_same x y e = cc
 
 -- ---- searches
 
@@ -75,61 +73,122 @@ counts-same t e o f =
     ∙ ap (λ n. record { steps = o.steps; found = length o.answers; failed = o.failed; deadlock = n; late = e.late }) f.deadlock
     ∙ ap (λ n. record { steps = o.steps; found = length o.answers; failed = o.failed; deadlock = o.deadlock; late = n }) f.late
 
--- what is printed is made of counts and of an end that a run tells
-printed : (ops : Table) (named : List Named) (o : Outcome World Term) (t : Told) (e : engine.Ended) (text : List ℕ) → Finds o t e → text ≡ answers_text ops named 0 o.answers → with_last text e.steps (end_by ops (counts_in e) (end_of t.seen e.how)) ≡ report ops named o
-printed ops named o t e text f shown =
-    ap (λ c. with_last text e.steps (end_by ops c (end_of t.seen e.how))) (counts-same t e o f)
-    ∙ ap (λ h. with_last text e.steps (end_by ops (counts_of o) h)) f.how
-    ∙ ap (λ n. with_last text n (end_by ops (counts_of o) o.how)) f.steps
-    ∙ ap (λ l. with_last l o.steps (end_by ops (counts_of o) o.how)) shown
+-- the last line is made of counts and of an end that a run tells
+last_is : (ops : Table) (o : Outcome World Term) (t : Told) (e : engine.Ended) → Finds o t e → with_last [] e.steps (end_by ops (counts_in e) (end_of t.seen e.how)) ≡ with_last [] o.steps (end_by ops (counts_of o) o.how)
+last_is ops o t e f =
+    ap (λ c. with_last [] e.steps (end_by ops c (end_of t.seen e.how))) (counts-same t e o f)
+    ∙ ap (λ h. with_last [] e.steps (end_by ops (counts_of o) h)) f.how
+    ∙ ap (λ n. with_last [] n (end_by ops (counts_of o) o.how)) f.steps
 
--- the lines of answers that were taken one after the other
-took-lines : (ops : Entries) (named : List Named) (n : ℕ) (answers : List (World × ℕ)) (before now : Lines) → Took (λ (old : Lines) (a : taken.Answer) (new : Lines). AddsAnswer a old new) before (numbered named ops n answers) now → chars (string_bytes now.text) ≡ chars (string_bytes before.text) ++ answers_text (table_of ops) named n answers
-took-lines ops named n [] before now is = ap (λ (l : Lines). chars (string_bytes l.text)) is ∙ sym (append-nil (chars (string_bytes before.text)))
-took-lines ops named n (a ∷ answers) before now (at, adds, rest) =
-    let first = world_answer_text (table_of ops) named (n + 1) a.0 a.1 in
-    let more = answers_text (table_of ops) named (n + 1) answers in
-    took-lines ops named (n + 1) answers at now rest ∙ ap (λ x. x ++ more) adds ∙ append_assoc (chars (string_bytes before.text)) first more
-
--- the report of a run whose answers were added to a text without characters
-pub searched_report : (old : Told) (o : Outcome World Term) (t : Told) (e : engine.Ended) (before now : Lines) → Finds o t e → IsSame old t → string_bytes before.text ≡ [] → Took (λ (old : Lines) (a : taken.Answer) (new : Lines). AddsAnswer a old new) before (numbered old.seen.named old.seen.ops 0 o.answers) now → with_last (chars (string_bytes now.text)) e.steps (end_by (table_of t.seen.ops) (counts_in e) (end_of t.seen e.how)) ≡ report (table_of old.seen.ops) old.seen.named o
-searched_report old o t e before now f same none took =
+-- behind the answers of a run, the last line ends its report
+pub searched_writes : (old : Told) (o : Outcome World Term) (t : Told) (e : engine.Ended) (f0 f1 f2 : ℕ) (w0 w1 w2 : Option (List ℕ)) (res : Result Status AnswerFault)
+    → Finds o t e → IsSame old t → f1 ≡ f0 → w1 ≡ added w0 (shown_bytes (numbered old.seen.named old.seen.ops 0 o.answers))
+    → Writes (with_last [] e.steps (end_by (table_of t.seen.ops) (counts_in e) (end_of t.seen e.how))) f1 f2 w1 w2 res
+    → Writes (report (table_of old.seen.ops) old.seen.named o) f0 f2 w0 w2 res
+searched_writes old o t e f0 f1 f2 w0 w1 w2 res finds same f w h =
     let ops = table_of old.seen.ops in
-    let lines = answers_text ops old.seen.named 0 o.answers in
-    ap (λ x. with_last (chars (string_bytes now.text)) e.steps (end_by (table_of x) (counts_in e) (end_of t.seen e.how))) same.ops
-    ∙ printed ops old.seen.named o t e (chars (string_bytes now.text)) f
-    (took-lines old.seen.ops old.seen.named 0 o.answers before now took ∙ ap (λ b. chars b ++ lines) none ∙ ap (λ b. b ++ lines) chars-nil)
+    let end = end_by ops (counts_of o) o.how in
+    later_writes (report ops old.seen.named o) (with_last [] o.steps end) (shown_bytes (numbered old.seen.named old.seen.ops 0 o.answers)) f0 f1 f2 w0 w1 w2 res
+    refl (shown-answers old.seen.ops old.seen.named 0 o.answers (last_line end.1 o.steps)) f w
+    (subst (λ b. Writes b f1 f2 w1 w2 res)
+    (ap (λ x. with_last [] e.steps (end_by (table_of x) (counts_in e) (end_of t.seen e.how))) same.ops ∙ last_is ops o t e finds) h)
+
+-- the bytes of a report: those of its answers, and its last line
+pub report_bytes : (old : Told) (o : Outcome World Term) → (report (table_of old.seen.ops) old.seen.named o).1 ≡ shown_bytes (numbered old.seen.named old.seen.ops 0 o.answers) ++ encode_utf8_all (last_line (end_by (table_of old.seen.ops) (counts_of o) o.how).1 o.steps)
+report_bytes old o = shown-answers old.seen.ops old.seen.named 0 o.answers (last_line (end_by (table_of old.seen.ops) (counts_of o) o.how).1 o.steps)
+
+-- ---- no text is empty
+
+line_some : (words : List ℕ) → 0 < length (line words)
+line_some words = omega (arith, length-append words (codes "\n"))
+
+encoded_some : (words : List ℕ) → 0 < length (encode_utf8_all (line words))
+encoded_some words =
+    let all = ap length (encodes-append words (codes "\n")) ∙ length-append (encode_utf8_all words) (encode_utf8_all (codes "\n")) in
+    omega (arith, all, newline_some)
+  where
+    newline_some : 0 < length (encode_utf8_all (codes "\n"))
+    newline_some =
+        let one = (len_utf8_bounds 10).0 in
+        let size = length-encode 10 in
+        let all : length (encode_utf8_all (codes "\n")) ≡ length (encode_utf8 10) + length (encode_utf8_all []) = length-append (encode_utf8 10) (encode_utf8_all []) in
+        omega (arith, one, size, all)
+
+pub last_some : (end : EndLine) (steps : ℕ) → 0 < length (encode_utf8_all (last_line end steps))
+last_some last.Stopped steps = encoded_some (codes "stopped" ++ after_text steps)
+last_some (last.NoMore failed deadlock late) steps = encoded_some (codes "no more" ++ (after_text steps ++ counts_text failed deadlock late))
+last_some (last.No failed deadlock late) steps = encoded_some (codes "no" ++ (after_text steps ++ counts_text failed deadlock late))
+last_some (last.Raised term clock) steps = encoded_some (codes "error " ++ (term ++ (codes " at " ++ (signed_decimal clock ++ after_text steps))))
+last_some last.Budget steps = encoded_some (codes "budget" ++ after_text steps)
+
+report_some : (ops : Table) (named : List Named) (o : Outcome World Term) → 0 < length (report ops named o).1
+report_some ops named o =
+    let front = answers_text ops named 0 o.answers in
+    let end = last_line (end_by ops (counts_of o) o.how).1 o.steps in
+    let all = ap length (encodes-append front end) ∙ length-append (encode_utf8_all front) (encode_utf8_all end) in
+    omega (arith, all, last_some (end_by ops (counts_of o) o.how).1 o.steps)
+
+goal_line_some : (x : goal.Refusal) → 0 < length (goal_refused x).1
+goal_line_some x = line_some (codes "goal refused: byte " ++ (decimal x.0 ++ (codes " cause " ++ cause_word x.1)))
+
+model_line_some : (x : Refusal) → 0 < length (model_refused x).1
+model_line_some x =
+    line_some (codes "model refused: clause " ++ (decimal x.clause ++ (codes " byte " ++ (decimal x.byte ++ (codes " cause " ++ cause_word x.cause)))))
+
+found_some : (m : Model) (x : Result Found goal.Refusal) (r : Request) → 0 < length (for_found m x r).1
+found_some m (Err refused) r = goal_line_some refused
+found_some m (Ok f) r = report_some m.table (named_in f.named) (found m f r.steps r.answers)
+
+pub goal_some : (m : Model) (r : Request) → 0 < length (for_goal m r).1
+goal_some m r = found_some m (goal.goal_of m.table r.goal) r
+
+pub read_some : (m : Model) (f : Found) (r : Request) → 0 < length (for_read m f r).1
+read_some m f r = found_some m (with_body f (body f.term)) r
+
+model_some : (x : Result Model Refusal) (r : Request) → 0 < length (for_model x r).1
+model_some (Err refused) r = model_line_some refused
+model_some (Ok m) r = goal_some m r
+
+pub usage_some : 0 < length usage.1
+usage_some = line_some (codes "usage: tprolog MODEL GOAL [options]")
+
+pub text_some : (text : List ℕ) (r : Request) → 0 < length (for_text text r).1
+unfolding for_text
+text_some text r = by (nat_lt 16777216 (length text))
+  where
+    by : (b : Bool) → let a : Answer = cond b too_long (for_model (model text) r) in 0 < length a.1
+    by true = line_some (codes "model refused: more than 16777216 bytes")
+    by false = model_some (model text) r
 
 -- ---- goals
 
 -- the search of an engine is that of its goal
-outcome_is : (names : List Name) (c : Contents) (g : ReadTerm) (t : Told) → IsStarted names c g t → outcome_of t 1000000 1 ≡ closed (found (model_in names c) (found_in names g))
-unfolding found budget search
-outcome_is names c g t s =
-    ap (λ b. closed (try (searched b) (world_in t.seen) 1000000 1)) s.base
-    ∙ ap (λ (m : State World). closed (try (searched (base_of names c)) m.world 1000000 1)) s.state
+outcome_is : (names : List Name) (c : Contents) (g : ReadTerm) (t : Told) (steps answers : ℕ) → IsStarted names c g t → outcome_of t steps answers ≡ closed (found (model_in names c) (found_in names g) steps answers)
+unfolding found search
+outcome_is names c g t steps answers s =
+    ap (λ b. closed (try (searched b) (world_in t.seen) steps answers)) s.base
+    ∙ ap (λ (m : State World). closed (try (searched (base_of names c)) m.world steps answers)) s.state
 
 named-back : (xs : List Named) → named_in (map named_of xs) ≡ xs
 named-back [] = refl
 named-back (x ∷ xs) = ap (λ more. x ∷ more) (named-back xs)
 
 -- the answer to a goal that has a body
-pub read_answered : (names : List Name) (c : Contents) (g : ReadTerm) (t : Told) (a : Answer) → IsStarted names c g t → IsTrue (is_some (body (goal_term names g))) → a ≡ report (table_of t.seen.ops) t.seen.named (outcome_of t 1000000 1) → a ≡ for_read (model_in names c) (found_in names g)
-read_answered names c g t a s has told =
-    told
-    ∙ ap (λ ops. report (table_of ops) t.seen.named (outcome_of t 1000000 1)) s.ops
-    ∙ ap (λ vs. report (table_of c.ops) vs (outcome_of t 1000000 1)) (s.named ∙ sym (named-back g.named))
-    ∙ ap (report (table_of c.ops) (named_in (map named_of g.named))) (outcome_is names c g t s)
-    ∙ report-closed (table_of c.ops) (named_in (map named_of g.named)) (found (model_in names c) (found_in names g))
+pub read_answered : (names : List Name) (c : Contents) (g : ReadTerm) (t : Told) (r : Request) → IsStarted names c g t → IsTrue (is_some (body (goal_term names g))) → report (table_of t.seen.ops) t.seen.named (outcome_of t r.steps r.answers) ≡ for_read (model_in names c) (found_in names g) r
+read_answered names c g t r s has =
+    ap (λ ops. report (table_of ops) t.seen.named (outcome_of t r.steps r.answers)) s.ops
+    ∙ ap (λ vs. report (table_of c.ops) vs (outcome_of t r.steps r.answers)) (s.named ∙ sym (named-back g.named))
+    ∙ ap (report (table_of c.ops) (named_in (map named_of g.named))) (outcome_is names c g t r.steps r.answers s)
+    ∙ report-closed (table_of c.ops) (named_in (map named_of g.named)) (found (model_in names c) (found_in names g) r.steps r.answers)
     ∙ by (body (goal_term names g)) has
   where
-    by : (b : Option Term) → IsTrue (is_some b) → for_found (model_in names c) (Ok (found_in names g)) ≡ for_found (model_in names c) (with_body (found_in names g) b)
+    by : (b : Option Term) → IsTrue (is_some b) → for_found (model_in names c) (Ok (found_in names g)) r ≡ for_found (model_in names c) (with_body (found_in names g) b) r
     by None h = absurd (true≢false (sym h))
     by (Some b) h = refl
 
 -- the answer to a goal that has none
-pub no_body : (names : List Name) (c : Contents) (g : ReadTerm) (a : Answer) → body (goal_term names g) ≡ None → a ≡ goal_refused (g.from, Body) → a ≡ for_read (model_in names c) (found_in names g)
-no_body names c g a none told = told ∙ ap (λ b. for_found (model_in names c) (with_body (found_in names g) b)) (sym none)
+pub no_body : (names : List Name) (c : Contents) (g : ReadTerm) (r : Request) → body (goal_term names g) ≡ None → goal_refused (g.from, Body) ≡ for_read (model_in names c) (found_in names g) r
+no_body names c g r none = ap (λ b. for_found (model_in names c) (with_body (found_in names g) b) r) (sym none)
 
 found_same : (names : List Name) (t : ReadTerm) (f : Found) → Tells names t f → found_in names t ≡ f
 found_same names t f h =
@@ -143,18 +202,17 @@ model_later : (old new : List Name) (c : Contents) → Grows old new → AreName
 model_later old new c grows named = ap (λ b. record { clauses = b; table = table_of c.ops }) (base-later old new grows c named)
 
 -- the answer to a goal text that has a reading; its names are behind those of the base
-pub goal_answered : (old new : List Name) (c : Contents) (t : ReadTerm) (f : Found) (text : List ℕ) (a : Answer) → Grows old new → AreNamed (length old) c.cells → read.goal_of (table_of c.ops) text ≡ Ok f → Tells new t f → a ≡ for_read (model_in new c) (found_in new t) → a ≡ for_goal (model_in old c) text
+pub goal_answered : (old new : List Name) (c : Contents) (t : ReadTerm) (f : Found) (r : Request) → Grows old new → AreNamed (length old) c.cells → read.goal_of (table_of c.ops) r.goal ≡ Ok f → Tells new t f → for_read (model_in new c) (found_in new t) r ≡ for_goal (model_in old c) r
 unfolding goal.goal_of
-goal_answered old new c t f text a grows named is h told =
-    told
-    ∙ ap (λ m. for_read m (found_in new t)) (model_later old new c grows named)
-    ∙ ap (for_read (model_in old c)) (found_same new t f h)
-    ∙ ap (λ r. for_found (model_in old c) (goal_by r)) (sym is)
+goal_answered old new c t f r grows named is h =
+    ap (λ m. for_read m (found_in new t) r) (model_later old new c grows named)
+    ∙ ap (λ g. for_read (model_in old c) g r) (found_same new t f h)
+    ∙ ap (λ x. for_found (model_in old c) (goal_by x) r) (sym is)
 
 -- the answer to one that has none
-pub goal_stopped : (names : List Name) (c : Contents) (r : read.Refusal) (text : List ℕ) (a : Answer) → read.goal_of (table_of c.ops) text ≡ Err r → a ≡ for_found (model_in names c) (goal_by (Err r)) → a ≡ for_goal (model_in names c) text
+pub goal_stopped : (names : List Name) (c : Contents) (stop : read.Refusal) (r : Request) → read.goal_of (table_of c.ops) r.goal ≡ Err stop → for_found (model_in names c) (goal_by (Err stop)) r ≡ for_goal (model_in names c) r
 unfolding goal.goal_of
-goal_stopped names c r text a is told = told ∙ ap (λ x. for_found (model_in names c) (goal_by x)) (sym is)
+goal_stopped names c stop r is = ap (λ x. for_found (model_in names c) (goal_by x) r) (sym is)
 
 -- ---- models
 
@@ -163,82 +221,60 @@ model_same names c m h =
     ap (λ b. record { clauses = b; table = table_of c.ops }) h.clauses ∙ ap (λ t. record { clauses = m.clauses; table = t }) h.table
 
 -- a text that isn't too long
-text_answered : (text words : List ℕ) (r : Result Model Refusal) (answer : Answer) → length text ≤ 16777216 → model text ≡ r → answer ≡ for_model r words → answer ≡ for_text text words
+text_answered : (text : List ℕ) (r : Request) (x : Result Model Refusal) → length text ≤ 16777216 → model text ≡ x → for_model x r ≡ for_text text r
 unfolding for_text
-text_answered text words r answer short read told =
-    told ∙ ap (λ x. for_model x words) (sym read)
-    ∙ ap (λ b. cond b too_long (for_model (model text) words)) (sym (le-ltb 16777216 (length text) short))
+text_answered text r x short read =
+    ap (λ m. for_model m r) (sym read)
+    ∙ ap (λ b. cond b too_long (for_model (model text) r)) (sym (le-ltb 16777216 (length text) short))
 
 -- the answer over the base that was loaded
-pub base_answered : (text words : List ℕ) (names : List Name) (c : Contents) (m : Model) (a : Answer) → length text ≤ 16777216 → model text ≡ Ok m → Has names c m → a ≡ for_goal (model_in names c) words → a ≡ for_text text words
-base_answered text words names c m a short is has told = text_answered text words (Ok m) a short is (told ∙ ap (λ x. for_goal x words) (model_same names c m has))
+pub base_answered : (text : List ℕ) (r : Request) (names : List Name) (c : Contents) (m : Model) → length text ≤ 16777216 → model text ≡ Ok m → Has names c m → for_goal (model_in names c) r ≡ for_text text r
+base_answered text r names c m short is has = ap (λ x. for_goal x r) (model_same names c m has) ∙ text_answered text r (Ok m) short is
 
 -- the answer where there is none
-pub base_refused : (text words : List ℕ) (r : Refusal) (a : Answer) → length text ≤ 16777216 → model text ≡ Err r → a ≡ model_refused r → a ≡ for_text text words
-base_refused text words r a short is told = text_answered text words (Err r) a short is told
+pub base_refused : (text : List ℕ) (r : Request) (refused : Refusal) → length text ≤ 16777216 → model text ≡ Err refused → model_refused refused ≡ for_text text r
+base_refused text r refused short is = text_answered text r (Err refused) short is
 
-long_answered : (text goal : List ℕ) → 16777216 < length text → for_text text goal ≡ too_long
+pub long_answered : (text : List ℕ) (r : Request) → 16777216 < length text → for_text text r ≡ too_long
 unfolding for_text
-long_answered text goal long = ap (λ b. cond b too_long (for_model (model text) goal)) (lt-ltb 16777216 (length text) long)
+long_answered text r long = ap (λ b. cond b too_long (for_model (model text) r)) (lt-ltb 16777216 (length text) long)
 
--- ---- no answer has the status of a fault or of want of memory
+-- ---- the status of a text's answer is that of a search or of a refusal
 
-end_plain : (ops : Table) (c : Counts) (how : End World Term) → IsPlain (end_by ops c how).0
-end_plain ops c (Fails s) = by (nat_eq c.found 0)
+-- a status that an answer for a text may have
+abbrev pub IsOfText : Status → Type 0
+IsOfText status.Usage = ⊥
+IsOfText status.Read = ⊥
+IsOfText status.Write = ⊥
+IsOfText status.Memory = ⊥
+IsOfText _ = Unit {0}
+
+end_of_text : (ops : Table) (c : Counts) (how : End World Term) → IsOfText (end_by ops c how).0
+end_of_text ops c (Fails s) = by (nat_eq c.found 0)
   where
-    by : (b : Bool) → let e : Status × EndLine = cond b (status.No, last.No c.failed c.deadlock c.late) (status.Found, last.NoMore c.failed c.deadlock c.late) in IsPlain e.0
+    by : (b : Bool) → let e : Status × EndLine = cond b (status.No, last.No c.failed c.deadlock c.late) (status.Found, last.NoMore c.failed c.deadlock c.late) in IsOfText e.0
     by true = tt
     by false = tt
-end_plain ops c Stopped = tt
-end_plain ops c (Raised t z) = tt
-end_plain ops c Budget = tt
+end_of_text ops c Stopped = tt
+end_of_text ops c (Raised t z) = tt
+end_of_text ops c Budget = tt
 
-found_plain : (m : Model) (r : Result Found goal.Refusal) → IsPlain (for_found m r).0
-found_plain m (Err r) = tt
-found_plain m (Ok f) = end_plain m.table (counts_of (found m f)) (found m f).how
+found_of_text : (m : Model) (x : Result Found goal.Refusal) (r : Request) → IsOfText (for_found m x r).0
+found_of_text m (Err refused) r = tt
+found_of_text m (Ok f) r = let o = found m f r.steps r.answers in end_of_text m.table (counts_of o) o.how
 
-model_plain : (r : Result Model Refusal) (words : List ℕ) → IsPlain (for_model r words).0
+model_of_text : (x : Result Model Refusal) (r : Request) → IsOfText (for_model x r).0
 unfolding goal.goal_of
-model_plain (Err r) words = tt
-model_plain (Ok m) words = found_plain m (goal.goal_of m.table words)
+model_of_text (Err refused) r = tt
+model_of_text (Ok m) r = found_of_text m (goal.goal_of m.table r.goal) r
 
-text_plain : (text goal : List ℕ) → IsPlain (for_text text goal).0
+pub of_text : (text : List ℕ) (r : Request) → IsOfText (for_text text r).0
 unfolding for_text
-text_plain text goal = by (nat_lt 16777216 (length text))
+of_text text r = by (nat_lt 16777216 (length text))
   where
-    by : (b : Bool) → let a : Answer = cond b too_long (for_model (model text) goal) in IsPlain a.0
+    by : (b : Bool) → let a : Answer = cond b too_long (for_model (model text) r) in IsOfText a.0
     by true = tt
-    by false = model_plain (model text) goal
-
--- ---- replies that are expected
-
--- the answer of a request whose model is held, where the shelf tells
-held_prepared : (words : List (List ℕ)) (held : Option Files) (before after : ℕ) (r : Request) (a : Answer) → Some r ≡ request words → IsPlain a.0 → ((files : Files) → held ≡ Some files → for_held (held_under files r.model) r.goal ≡ Some a) → Prepared a words held before after
-held_prepared words held before after r a asked plain told = inl (plain, by held told)
-  where
-    by : (h : Option Files) → ((files : Files) → h ≡ Some files → for_held (held_under files r.model) r.goal ≡ Some a) → OfExpected words h (λ e. e ≡ Some a)
-    by None t = subst (λ q. OfUsage q (λ e. e ≡ Some a)) asked tt
-    by (Some files) t = ap (λ q. elim q [ None ↦ Some usage | Some x ↦ expected_of x files ]) (sym asked) ∙ t files refl
-
--- a text that was read
-pub text_prepared : (words : List (List ℕ)) (held : Option Files) (before after : ℕ) (r : Request) (text : List ℕ) (a : Answer) → Some r ≡ request words → ReadsAll held r.model text → a ≡ for_text text r.goal → Prepared a words held before after
-text_prepared words held before after r text a asked read answered = held_prepared words held before after r a asked (subst (λ (x : Answer). IsPlain x.0) (sym answered) (text_plain text r.goal)) (by held read)
-  where
-    by : (h : Option Files) → ReadsAll h r.model text → (files : Files) → h ≡ Some files → for_held (held_under files r.model) r.goal ≡ Some a
-    by None all files is = absurd (true≢false (sym (ap is_some is)))
-    by (Some f) all files is = ap (λ g. for_held (held_under g r.model) r.goal) (sym (some_same f files is)) ∙ ap (λ o. for_held o r.goal) all ∙ ap Some (sym answered)
-
--- a text that is too long
-pub long_prepared : (words : List (List ℕ)) (held : Option Files) (before after : ℕ) (r : Request) (a : Answer) → Some r ≡ request words → HoldsMore held r.model 16777216 → a ≡ too_long → Prepared a words held before after
-long_prepared words held before after r a asked more is_long = held_prepared words held before after r a asked (subst (λ x. IsPlain x.0) (sym is_long) tt) (by held more)
-  where
-    told : (o : Option (List ℕ)) → MatchOption o ⊥ (λ bytes. 16777216 < length bytes) → for_held o r.goal ≡ Some a
-    told None h = absurd h
-    told (Some text) h = ap Some (long_answered text r.goal h ∙ sym is_long)
-
-    by : (h : Option Files) → HoldsMore h r.model 16777216 → (files : Files) → h ≡ Some files → for_held (held_under files r.model) r.goal ≡ Some a
-    by None all files is = absurd (true≢false (sym (ap is_some is)))
-    by (Some f) all files is = ap (λ g. for_held (held_under g r.model) r.goal) (sym (some_same f files is)) ∙ told (held_under f r.model) all
+    by false = model_of_text (model text) r
 
 pub if_ok : {A E : Type 0} (r : Result A E) (P Q : A → Type 0) → ((a : A) → P a → Q a) → IfOk r P → IfOk r Q
 if_ok (Ok a) P Q f h = f a h

@@ -1,13 +1,15 @@
 -- What a run does, with every shelf and every sink.
-use Rattle.std.specs.Prelude.{◌≡◌, ℕ, List, map, string_bytes, Option, Some, None, MatchOption, IsSome, IsSomeAnd, ◌⊎◌}
-use Rattle.std.specs.declared.alloc.Global.{Global}
-use Rattle.std.specs.declared.string.String.{String}
+use Rattle.std.specs.Prelude.{◌≡◌, ℕ, List, Option, Some, None}
+use Rattle.std.specs.Prelude.{MatchOption, IsSome, IsSomeAnd, ◌⊎◌, ◌↔◌}
 use Rattle.tp_outside.specs.Count.{Rose}
 use Rattle.tp_outside.specs.Files.{Files, held_under}
 use Rattle.tp_outside.specs.Taken.{added, HasPrefix}
+use Rattle.tp_top.specs.Written.{HasLess}
 use Rattle.tp_top.specs.declared.program.Status.{Status}
-use Rattle.tp_top.specs.declared.program.Status.TheVariants.{Found, No, Raised, Budget, Usage, Model, Goal, Read, Write, Memory}
-use Rattle.tp_top.specs.Expected.{Request, request, Answer, expected, usage, read_fault}
+use Rattle.tp_top.specs.declared.program.Status.TheVariants.{Found, No, Raised}
+use Rattle.tp_top.specs.declared.program.Status.TheVariants.{Budget, Usage, Model, Goal}
+use Rattle.tp_top.specs.declared.program.Status.TheVariants.{Read, Write, Memory}
+use Rattle.tp_top.specs.Expected.{Request, request, Answer, expected, for_text, usage, read_fault}
 
 -- the number of a status
 abbrev pub number_of : Status → ℕ
@@ -21,9 +23,6 @@ number_of Goal = 6
 number_of Read = 7
 number_of Write = 8
 number_of Memory = 9
-
-abbrev pub words_of : List (String Global) → List (List ℕ)
-words_of = map (λ word. string_bytes word)
 
 -- What a run is about: what the shelf tells, the words, the counts of faults of reading and of
 -- writing before and after, and what the sink tells before and after.
@@ -39,14 +38,15 @@ pub record Run : Type 0 where
 
 -- ---- what is expected
 
-abbrev pub OfUsage : Option Request → (Option Answer → Type 0) → Type 0
-OfUsage None P = P (Some usage)
-OfUsage (Some r) P = Unit {0}
+-- the words are no request, or there is a model's text whose answer is expected
+abbrev pub OfSomeText : Option Request → (Option Answer → Type 0) → Type 0
+OfSomeText None P = P (Some usage)
+OfSomeText (Some r) P = (text : List ℕ) × P (Some (for_text text r))
 
--- what holds of the expected answer, where it is known: the shelf tells, or the words are no
--- request
+-- What holds of the expected answer. Where the shelf doesn't tell its files, it is the answer for
+-- the text of some model.
 abbrev pub OfExpected : List (List ℕ) → Option Files → (Option Answer → Type 0) → Type 0
-OfExpected words None P = OfUsage (request words) P
+OfExpected words None P = OfSomeText (request words) P
 OfExpected words (Some files) P = P (expected words files)
 
 -- a status that is none of a read fault, a write fault and want of memory
@@ -83,6 +83,13 @@ WasRead (Some r) held before after = MayBeHeld held r.model × (after ≡ before
 abbrev pub ReadModel : Run → Type 0
 ReadModel run = WasRead (request run.words) run.held run.reads_before run.reads_after
 
+-- nothing was read and nothing written: the words themselves took more memory than there is
+abbrev pub DidNothing : Run → Type 0
+DidNothing run =
+    (run.reads_after ≡ run.reads_before)
+    × (run.writes_after ≡ run.writes_before)
+    × (run.taken_after ≡ run.taken_before)
+
 -- ---- what is written
 
 -- a whole text was added
@@ -99,6 +106,15 @@ abbrev pub IsCutShort : Run → Type 0
 IsCutShort run =
     OfExpected run.words run.held (WrotePart run)
     ⊎ (CouldNotRead run × HasPrefix run.taken_before run.taken_after read_fault)
+
+-- a part of the expected text was added and not all of it, and nothing where there is no answer
+abbrev pub WroteLess : Run → Option Answer → Type 0
+WroteLess run None = run.taken_after ≡ run.taken_before
+WroteLess run (Some answer) = HasLess run.taken_before run.taken_after answer.1
+
+-- the same of what is expected
+abbrev pub IsUnfinished : Run → Type 0
+IsUnfinished run = OfExpected run.words run.held (WroteLess run)
 
 -- the expected answer, whole
 abbrev pub GaveAnswer : Run → Status → Answer → Type 0
@@ -129,18 +145,18 @@ pub record Ended (run : Run) (status : Status) : Type 0 where
   pub read : status ≡ Read → CouldNotRead run × Wrote run read_fault
   -- Where it is a write fault, the count of faults of writing rose, and a prefix was written.
   pub write : status ≡ Write → Rose run.writes_before run.writes_after × IsCutShort run
-  -- Where memory was refused, the model was read without a fault, and a prefix was written.
-  pub memory : status ≡ Memory → ReadModel run × IsCutShort run
+  -- Where memory was refused, the model was read without a fault, or nothing was done. No write
+  -- failed, and the expected text wasn't all written.
+  pub memory :
+      status ≡ Memory →
+      (ReadModel run ⊎ DidNothing run)
+      × (run.writes_after ≡ run.writes_before)
+      × IsUnfinished run
+  -- Where it is none of these three, it says that the words are no request exactly where they
+  -- are none.
+  pub by_words : IsPlain status → (status ≡ Usage) ↔ (request run.words ≡ None)
   -- Where no count of faults rose, the expected answer was given, whole, or the line of a read
   -- fault where none is expected, or memory was refused.
   pub complete :
       ¬ Rose run.reads_before run.reads_after → ¬ Rose run.writes_before run.writes_after →
       OfExpected run.words run.held (λ answer. GaveAll run status answer ⊎ (status ≡ Memory))
-
--- ---- before anything is written
-
--- an answer that is expected, or that of a model that couldn't be read
-abbrev pub Prepared : Answer → List (List ℕ) → Option Files → ℕ → ℕ → Type 0
-Prepared answer words held before after =
-    (IsPlain answer.0 × OfExpected words held (λ e. e ≡ Some answer))
-    ⊎ (IsReadFault (request words) held before after × (answer ≡ (Read, read_fault)))

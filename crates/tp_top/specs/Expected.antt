@@ -1,6 +1,11 @@
 -- What a run answers and prints.
-use Rattle.std.specs.Prelude.{ℕ, Bool, true, List, [], ◌∷◌, ◌++◌, length, map, Option, Some, None, Result, Ok, Err, codes, decimal, if◌then◌else◌, nat_eq, nat_lt, ◌&&◌, not}
+use Rattle.std.specs.Prelude.{ℕ, Bool, List, ◌++◌, length, map, Option, Some, None, option_map}
+use Rattle.std.specs.Prelude.{Result, Ok, Err, codes, decimal, encode_utf8_all}
+use Rattle.std.specs.Prelude.{if◌then◌else◌, nat_lt}
 use Rattle.tp_outside.specs.Files.{Files, held_under}
+use Rattle.tp_words.specs.Request as clap
+use Rattle.tp_words.specs.declared.Request as given
+use Rattle.tp_words.specs.declared.Request.TheVariants.{Run}
 use Rattle.tp_terms.specs.Term.{Name, Term}
 use Rattle.tp_terms.specs.declared.text.Named.{Named}
 use Rattle.tp_meaning.specs.World.{World}
@@ -19,21 +24,28 @@ use Rattle.tp_top.specs.Report.{report}
 
 -- ---- the words
 
-abbrev pub is_plain : List ℕ → Bool
-is_plain [] = true
-is_plain (b ∷ bs) = not (nat_eq b 45)
-
+-- what the words ask for: the names of the model and the goal's text in UTF-8, how many steps the
+-- search may take, how many answers are wanted, and whether meters are printed
 pub record Request : Type 0 where
   pub model : List ℕ
   pub goal : List ℕ
+  pub steps : ℕ
+  pub answers : ℕ
+  pub meters : Bool
 
--- a request has two words of which neither begins with a dash
+-- the same of a request of the words, whose texts are lists of characters
+abbrev pub asked : given.Request → Request
+asked (Run model goal steps answers meters) = record {
+  model = encode_utf8_all model;
+  goal = encode_utf8_all goal;
+  steps = steps;
+  answers = answers;
+  meters = meters;
+}
+
+-- the request that the words make
 abbrev pub request : List (List ℕ) → Option Request
-request (model ∷ goal ∷ []) =
-    if is_plain model && is_plain goal
-    then Some (record { model = model; goal = goal })
-    else None
-request _ = None
+request words = option_map asked (clap.request words)
 
 -- ---- refusals
 
@@ -87,42 +99,38 @@ goal_refused r = (
 
 -- ---- the answer
 
--- the most steps of a search
-unfoldable pub budget : ℕ
-budget = 1000000
-
--- what the search of a goal finds: the first answer, within the steps
-unfoldable pub found : Model → Found → Outcome World Term
-found m f = search m.clauses f.term f.vars budget 1
+-- what the search of a goal finds: so many answers, within so many steps
+unfoldable pub found : Model → Found → ℕ → ℕ → Outcome World Term
+found m f steps answers = search m.clauses f.term f.vars steps answers
 
 -- the variables of a goal that have a name
 abbrev pub named_in : List (Name × ℕ) → List Named
 named_in = map (λ n. record { name = n.0; number = n.1 })
 
 -- the answer to a goal or to its refusal
-abbrev pub for_found : Model → Result Found goal.Refusal → Answer
-for_found m (Err r) = goal_refused r
-for_found m (Ok f) = report m.table (named_in f.named) (found m f)
+abbrev pub for_found : Model → Result Found goal.Refusal → Request → Answer
+for_found m (Err refusal) r = goal_refused refusal
+for_found m (Ok f) r = report m.table (named_in f.named) (found m f r.steps r.answers)
 
 -- the goal is read by the last table of operators of the model
-abbrev pub for_goal : Model → List ℕ → Answer
-for_goal m text = for_found m (goal_of m.table text)
+abbrev pub for_goal : Model → Request → Answer
+for_goal m r = for_found m (goal_of m.table r.goal) r
 
-abbrev pub for_model : Result Model Refusal → List ℕ → Answer
-for_model (Err r) goal = model_refused r
-for_model (Ok m) goal = for_goal m goal
+abbrev pub for_model : Result Model Refusal → Request → Answer
+for_model (Err refusal) r = model_refused refusal
+for_model (Ok m) r = for_goal m r
 
--- the answer for the text of a model and of a goal
-unfoldable pub for_text : List ℕ → List ℕ → Answer
-for_text text goal = if nat_lt 16777216 (length text) then too_long else for_model (model text) goal
+-- the answer of a request for the text of a model
+unfoldable pub for_text : List ℕ → Request → Answer
+for_text text r = if nat_lt 16777216 (length text) then too_long else for_model (model text) r
 
-abbrev pub for_held : Option (List ℕ) → List ℕ → Option Answer
-for_held None goal = None
-for_held (Some text) goal = Some (for_text text goal)
+abbrev pub for_held : Option (List ℕ) → Request → Option Answer
+for_held None r = None
+for_held (Some text) r = Some (for_text text r)
 
 -- the answer of a request over files, none where the model isn't held
 abbrev pub expected_of : Request → Files → Option Answer
-expected_of r files = for_held (held_under files r.model) r.goal
+expected_of r files = for_held (held_under files r.model) r
 
 abbrev pub expected : List (List ℕ) → Files → Option Answer
 expected words files = elim (request words) [ None ↦ Some usage | Some r ↦ expected_of r files ]

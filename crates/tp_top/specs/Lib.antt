@@ -1,5 +1,6 @@
 pub mod Report
 pub mod Expected
+pub mod Written
 pub mod Ended
 pub mod Replies
 pub mod Told

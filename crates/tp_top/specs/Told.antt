@@ -1,5 +1,5 @@
 -- The model that a base has, the goal that a read term is, and the lines of an engine's answer.
-use Rattle.std.specs.Prelude.{◌≡◌, ℕ, List, ◌++◌, chars, map, string_bytes}
+use Rattle.std.specs.Prelude.{ℕ, List, [], ◌∷◌, ◌++◌, encode_utf8_all, map}
 use Rattle.tp_terms.specs.Term.{Name}
 use Rattle.tp_parse.specs.Ops.{table_of}
 use Rattle.tp_parse.specs.Texts.{Found}
@@ -12,8 +12,8 @@ use Rattle.tp_clauses.specs.Model.{Model}
 use Rattle.tp_machine.specs.Program.{goal_term}
 use Rattle.tp_engine.specs.Answers as engine
 use Rattle.tp_report.specs.Report.{world_answer_text}
-use Rattle.tp_top.specs.declared.lines.Lines.{Lines}
-use Rattle.tp_top.specs.Expected.{Answer, for_found}
+use Rattle.tp_top.specs.declared.asked.Asked.{Asked}
+use Rattle.tp_top.specs.Expected.{Answer, Request, for_found}
 
 -- the model that a store has, by these names
 abbrev pub model_in : List Name → Contents → Model
@@ -30,13 +30,24 @@ found_in names t = record {
 }
 
 -- the answer to a goal that was read, which may have no body
-abbrev pub for_read : Model → Found → Answer
-for_read m f = for_found m (with_body f (body f.term))
+abbrev pub for_read : Model → Found → Request → Answer
+for_read m f r = for_found m (with_body f (body f.term)) r
+
+-- a request whose texts are lent
+abbrev pub request_in : Asked → Request
+request_in a = record {
+  model = a.model.now;
+  goal = a.goal.now;
+  steps = a.steps;
+  answers = a.answers;
+  meters = a.meters;
+}
 
 -- the lines of an answer
 abbrev pub shown : engine.Answer → List ℕ
 shown a = world_answer_text (table_of a.ops) a.named a.number a.world a.steps
 
--- the lines of an answer were added
-abbrev pub AddsAnswer : engine.Answer → Lines → Lines → Type 0
-AddsAnswer a old new = chars (string_bytes new.text) ≡ chars (string_bytes old.text) ++ shown a
+-- the bytes of the lines of answers
+abbrev pub shown_bytes : List engine.Answer → List ℕ
+shown_bytes [] = []
+shown_bytes (a ∷ answers) = encode_utf8_all (shown a) ++ shown_bytes answers

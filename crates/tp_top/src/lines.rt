@@ -8,14 +8,17 @@ ghost use Rattle.tp_top.specs.Told.{shown};
 
 use std::alloc::Global;
 use tp_engine::{AnswerFault, AnswerView, Answers};
+use tp_outside::{Sink, write_all};
 use tp_report::answer_text;
 use tp_terms::{AtomId, NoMemory};
 
-/// The lines of the answers so far.
+/// Writes the lines of each answer when it is found. No more than one answer's lines are held.
 #[derive(Drop)]
-pub struct Lines {
-    /// The lines.
-    pub text: String,
+pub struct Printer<'a, W> {
+    /// Where the memory for the lines of an answer comes from.
+    pub alloc: Global,
+    /// Where the lines go.
+    pub sink: &'a mut W,
 }
 
 /// The names of the processes by their numbers.
@@ -53,19 +56,31 @@ fn add_answer(text: &mut String, view: &AnswerView<'_>) -> Result<(), NoMemory>
     )
 }
 
-impl Answers for Lines {
-    ghost use Rattle.tp_top.specs.Told.{AddsAnswer};
+impl<W: Sink> Answers for Printer<'_, W> {
+    ghost use Rattle.std.specs.Prelude.{◌≡◌, encode_utf8_all};
+    ghost use Rattle.tp_outside.specs.Taken.{added};
+    ghost use Rattle.tp_top.specs.Told.{shown};
+    ghost use Rattle.tp_top.specs.Written.{WasLeft};
 
-    ghost takes = { λ old answer new. AddsAnswer answer old new };
+    ghost takes = { λ old answer new.
+        (new.sink.ghost_name ≡ old.sink.ghost_name)
+        × (W.faults new.sink.now ≡ W.faults old.sink.now)
+        × (W.taken new.sink.now
+        ≡ added (W.taken old.sink.now) (encode_utf8_all (shown answer))) };
 
-    ghost leaves = { λ _ _ _ _. Unit {0} };
+    ghost leaves = { λ old answer fault new.
+        (new.sink.ghost_name ≡ old.sink.ghost_name)
+        × WasLeft fault (W.faults old.sink.now) (W.faults new.sink.now)
+        (W.taken old.sink.now) (W.taken new.sink.now) (encode_utf8_all (shown answer)) };
 
-    ghost faults = { λ _. 0 };
+    ghost faults = { λ printer. W.faults printer.sink.now };
 
     fn answer(&mut self, view: &AnswerView<'_>) -> Result<(), AnswerFault> {
-        match add_answer(&mut self.text, view) {
+        let mut text = String::new(self.alloc);
+        add_answer(&mut text, view)?;
+        match write_all(self.sink, text.as_bytes()) {
             Ok(()) => Ok(()),
-            Err(NoMemory) => Err(AnswerFault::NoMemory),
+            Err(_) => Err(AnswerFault::Write),
         }
     }
 }

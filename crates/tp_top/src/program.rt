@@ -1,19 +1,23 @@
 //! The whole program as one call.
 
-ghost use Rattle.std.specs.Prelude.{◌≡◌, ◌+◌, ◌≤◌, IfOk, OnErr};
-ghost use Rattle.std.specs.Option.{option_map};
-ghost use Rattle.tp_top.specs.Ended.{number_of, words_of, Ended, Prepared, WasRead};
-ghost use Rattle.tp_top.specs.Expected.{is_plain as is_plain_of, request};
-ghost use Rattle.tp_top.specs.Replies.{view_of};
+ghost use Rattle.std.specs.Prelude.{◌≡◌, ◌+◌, ◌<◌, ◌≤◌, ℕ, List, Some};
+ghost use Rattle.tp_words.specs.Command.{words_of};
+ghost use Rattle.tp_top.specs.Ended.{number_of, Ended};
+ghost use Rattle.tp_top.specs.Expected.{request};
+ghost use Rattle.tp_top.specs.Told.{request_in};
+ghost use Rattle.tp_top.specs.Written.{status_after};
 
 #[cfg(test)]
 mod tests;
 
 use crate::answer::answer;
-use crate::report::Reply;
+use crate::asked::Asked;
+use crate::refusal::{too_long, unread, usage};
+use crate::report::say;
 use std::alloc::Global;
-use tp_outside::{LONGEST_TEXT, ReadError, Shelf, Sink, read_all, write_all};
-use tp_terms::NoMemory;
+use tp_engine::AnswerFault;
+use tp_outside::{LONGEST_TEXT, ReadError, Shelf, Sink, read_all};
+use tp_words::{WordsFault, read_words};
 
 /// How a run ends. The number of each, from 0, is the exit status of the program.
 #[derive(Clone, Copy, Debug, PartialEq, Eq)]
@@ -49,63 +53,55 @@ impl Status {
     }
 }
 
-/// Whether a word doesn't begin with a dash.
-fn is_plain(word: &str) -> bool
-    ensures { result ≡ is_plain_of word.now }
+/// The status of what was written.
+fn status_of(written: Result<Status, AnswerFault>) -> Status
+    ensures { result ≡ status_after written }
 {
-    match word.as_bytes().first() {
-        None => true,
-        Some(byte) => *byte != b'-',
+    match written {
+        Ok(status) => status,
+        Err(AnswerFault::Write) => Status::Write,
+        Err(AnswerFault::NoMemory) => Status::Memory,
     }
 }
 
-/// The model's name and the goal, where the words are a request.
-fn request_of(words: &[String]) -> Option<(&str, &str)>
-    ensures { option_map (λ r. record { model = r.0.now; goal = r.1.now }) result
-        ≡ request (words_of words.now) }
-{
-    let [model, goal] = words else {
-        return None;
-    };
-    let model = model.as_str();
-    let goal = goal.as_str();
-    if is_plain(model) && is_plain(goal) {
-        Some((model, goal))
-    } else {
-        None
-    }
-}
-
-/// The answer to the words, before any of it is written.
-fn prepare<S: Shelf>(alloc: Global, words: &[String], shelf: &mut S) -> Result<Reply, NoMemory>
+/// Reads the model of a request, and answers its goal.
+fn perform<S: Shelf, W: Sink>(
+    alloc: Global,
+    asked: Asked<'_>,
+    shelf: &mut S,
+    sink: &mut W,
+) -> Status
+    requires answers { 0 < asked.answers }
     ensures held_stays { S.held shelf.new ≡ S.held shelf.old }
-    ensures never_falls { S.faults shelf.old ≤ S.faults shelf.new }
+    ensures reads_never_fall { S.faults shelf.old ≤ S.faults shelf.new }
     ensures read_once { S.given shelf.new ≤ S.given shelf.old + (LONGEST_TEXT + 1) }
-    ensures refused { OnErr result (WasRead (request (words_of words.now)) (S.held shelf.old)
-        (S.faults shelf.old) (S.faults shelf.new)) }
-    ensures reply { IfOk result (λ reply.
-        Prepared (view_of reply) (words_of words.now) (S.held shelf.old)
-        (S.faults shelf.old) (S.faults shelf.new)) }
+    ensures writes_never_fall { W.faults sink.old ≤ W.faults sink.new }
+    ensures ended { (words : List (List ℕ)) → request words ≡ Some (request_in asked.entry) →
+        Ended (record {
+          held = S.held shelf.old;
+          words = words;
+          reads_before = S.faults shelf.old;
+          reads_after = S.faults shelf.new;
+          writes_before = W.faults sink.old;
+          writes_after = W.faults sink.new;
+          taken_before = W.taken sink.old;
+          taken_after = W.taken sink.new;
+        }) result }
 {
-    let Some((model, goal)) = request_of(words) else {
-        return Ok(Reply::fixed(Status::Usage, "usage: tprolog MODEL GOAL [options]\n"));
-    };
-    match read_all(alloc, shelf, model) {
-        Ok(text) => answer(alloc, &text, goal),
-        Err(ReadError::Fault) => Ok(Reply::fixed(Status::Read, "read fault\n")),
-        Err(ReadError::TooLong) => Ok(Reply::fixed(
-            Status::Model,
-            "model refused: more than 16777216 bytes\n",
-        )),
-        Err(ReadError::NoMemory) => Err(NoMemory),
+    match read_all(alloc, shelf, asked.model) {
+        Ok(text) => status_of(answer(alloc, &text, asked, sink)),
+        Err(ReadError::Fault) => status_of(say(sink, &unread())),
+        Err(ReadError::TooLong) => status_of(say(sink, &too_long())),
+        Err(ReadError::NoMemory) => Status::Memory,
     }
 }
 
-/// Does all that the program does with the words behind its name: a model's name and a goal.
+/// Does all that the program does with the words behind its name: a model's name, a goal, and the
+/// options `--steps N` and `--answers N`.
 ///
-/// The model is read from the shelf, the goal is searched for one answer with at most 1,000,000
-/// steps, and what was found, or why there was nothing to find, is written to the sink. Nothing is
-/// left for the caller to print.
+/// The model is read from the shelf, the goal is searched for so many answers with at most so many
+/// steps, and what was found, or why there was nothing to find, is written to the sink, each answer
+/// when it is found. Nothing is left for the caller to print.
 pub fn run<S: Shelf, W: Sink>(
     alloc: Global,
     words: &[String],
@@ -127,11 +123,9 @@ pub fn run<S: Shelf, W: Sink>(
       taken_after = W.taken sink.new;
     }) result }
 {
-    let Ok(reply) = prepare(alloc, words, shelf) else {
-        return Status::Memory;
-    };
-    match write_all(sink, reply.text.as_bytes()) {
-        Ok(()) => reply.status,
-        Err(_) => Status::Write,
+    match read_words(alloc, words) {
+        Ok(request) => perform(alloc, Asked::of(&request), shelf, sink),
+        Err(WordsFault::Usage) => status_of(say(sink, &usage())),
+        Err(WordsFault::NoMemory) => Status::Memory,
     }
 }

@@ -2,7 +2,9 @@
 
 ghost use Rattle.std.specs.Prelude.{◌≡◌, IfOk};
 ghost use Rattle.tp_clauses.specs.Model.{cause_of as cause_of_reading, refusal};
-ghost use Rattle.tp_top.specs.Expected.{cause_word as word_of, goal_refused as goal_line, model_refused as model_line};
+ghost use Rattle.tp_top.specs.Expected.{cause_word as word_of, goal_refused as goal_line};
+ghost use Rattle.tp_top.specs.Expected.{model_refused as model_line};
+ghost use Rattle.tp_top.specs.Expected.{read_fault, too_long as long_line, usage as usage_line};
 ghost use Rattle.tp_top.specs.Replies.{view_of};
 
 use crate::program::Status;
@@ -11,6 +13,27 @@ use std::alloc::Global;
 use tp_clauses::Cause;
 use tp_parse::ReadCause;
 use tp_terms::NoMemory;
+
+/// The answer to words that are no request. Takes no memory.
+pub fn usage() -> Reply
+    ensures { view_of result ≡ usage_line }
+{
+    Reply::fixed(Status::Usage, "usage: tprolog MODEL GOAL [options]\n")
+}
+
+/// The answer to a model whose file couldn't be read. Takes no memory.
+pub fn unread() -> Reply
+    ensures { view_of result ≡ (Status.Read, read_fault) }
+{
+    Reply::fixed(Status::Read, "read fault\n")
+}
+
+/// The answer to a model with too many bytes. Takes no memory.
+pub fn too_long() -> Reply
+    ensures { view_of result ≡ long_line }
+{
+    Reply::fixed(Status::Model, "model refused: more than 16777216 bytes\n")
+}
 
 /// The word for a cause.
 fn cause_word(cause: Cause) -> &'static str

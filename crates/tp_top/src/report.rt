@@ -1,6 +1,6 @@
 //! The text that a run prints.
 
-ghost use Rattle.std.specs.Prelude.{◌≡◌, ◌<◌, chars, length, string_bytes, IfOk, None};
+ghost use Rattle.std.specs.Prelude.{◌≡◌, ◌<◌, ◌≤◌, [], length, string_bytes, IfOk, IfErr, None};
 ghost use Rattle.tp_meaning.specs.Search.{Fails};
 ghost use Rattle.tp_engine.specs.Ended.{end_of, RaisedStands};
 ghost use Rattle.tp_engine.specs.Told.{seen_in, IsSound};
@@ -8,11 +8,15 @@ ghost use Rattle.tp_parse.specs.Ops.{table_of};
 ghost use Rattle.tp_parse.specs.Table.{Table};
 ghost use Rattle.tp_write.specs.Text.{text as term_text};
 ghost use Rattle.tp_top.specs.Report.{end_by, with_last};
+ghost use Rattle.tp_top.specs.Expected.{Answer};
 ghost use Rattle.tp_top.specs.Replies.{counts_in, view_of};
+ghost use Rattle.tp_top.specs.Written.{Writes};
+ghost use Rattle.tp_engine.specs.declared.answers.AnswerFault.{AnswerFault};
 
 use crate::program::Status;
 use std::alloc::Global;
-use tp_engine::{AnswerView, Ended, How};
+use tp_engine::{AnswerFault, AnswerView, Ended, How};
+use tp_outside::{Sink, write_all};
 use tp_report::{EndLine, end_text};
 use tp_terms::{NoMemory, Ref, Text};
 use tp_write::write_term;
@@ -146,21 +150,44 @@ fn end_of_search(
     }
 }
 
-/// The report of a search whose answers have these lines.
-pub fn report(
-    alloc: Global,
-    mut text: String,
-    view: &AnswerView<'_>,
-    ended: &Ended,
-) -> Result<Reply, NoMemory>
+/// The status of a search, with its last line.
+pub fn report(alloc: Global, view: &AnswerView<'_>, ended: &Ended) -> Result<Reply, NoMemory>
     requires sound { IsSound view.now }
     requires raised { RaisedStands view.now ended.now.how }
     ensures { IfOk result (λ reply.
-        view_of reply ≡ with_last (chars (string_bytes text)) ended.now.steps
+        view_of reply ≡ with_last [] ended.now.steps
         (end_by (table_of view.now.ops) (counts_in ended.now)
         (end_of view.now ended.now.how))) }
 {
     let (status, end) = end_of_search(alloc, view, ended)?;
+    let mut text = String::new(alloc);
     end_text(&end, ended.steps, &mut text)?;
     Ok(Reply::made(status, text))
+}
+
+/// Writes a reply, and gives its status.
+pub fn say<W: Sink>(sink: &mut W, reply: &Reply) -> Result<Status, AnswerFault>
+    ensures never_falls { W.faults sink.old ≤ W.faults sink.new }
+    ensures wrote { Writes (view_of reply.now) (W.faults sink.old) (W.faults sink.new)
+        (W.taken sink.old) (W.taken sink.new) result }
+    ensures fault { IfErr result (λ fault. fault ≡ AnswerFault.Write) }
+{
+    match write_all(sink, reply.text.as_bytes()) {
+        Ok(()) => Ok(reply.status),
+        Err(_) => Err(AnswerFault::Write),
+    }
+}
+
+/// Writes a reply where there was memory to make it, and gives its status.
+pub fn say_made<W: Sink>(sink: &mut W, made: Result<Reply, NoMemory>) -> Result<Status, AnswerFault>
+    ensures never_falls { W.faults sink.old ≤ W.faults sink.new }
+    ensures wrote { (a : Answer) → IfOk made (λ reply. view_of reply ≡ a) →
+        0 < length a.1 →
+        Writes a (W.faults sink.old) (W.faults sink.new) (W.taken sink.old) (W.taken sink.new)
+        result }
+{
+    match made {
+        Ok(reply) => say(sink, &reply),
+        Err(NoMemory) => Err(AnswerFault::NoMemory),
+    }
 }

@@ -1,6 +1,7 @@
 -- The request that the words of a command line make. The steps of a run are 1,000,000 where no
 -- number from 1 to 1,000,000,000 is given, and the answers 1 where none from 1 to 1,000,000 is.
-use Rattle.std.specs.Prelude.{ℕ, Bool, false, List, Option, codes, chars, option_and_then, option_map}
+use Rattle.std.specs.Prelude.{ℕ, Bool, false, List, Option, codes, chars}
+use Rattle.std.specs.Prelude.{option_and_then, option_map}
 use Rattle.std.specs.Option.{option_map_or}
 use Rattle.std.specs.Str.{bytes_eq}
 use Rattle.clap.specs.Words.{Row, first_of}

@@ -46,8 +46,8 @@ fn is_true(value: Option<&str>) -> bool
     }
 }
 
-/// What the values of the arguments ask for, where both texts are there and the numbers are in their
-/// ranges.
+/// What the values of the arguments ask for, where both texts are there and the numbers are in
+/// their ranges.
 fn parts_from<'a>(
     model: Option<&'a str>,
     goal: Option<&'a str>,

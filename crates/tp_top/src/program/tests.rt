@@ -149,6 +149,64 @@ fn answers_texts(rt: HostRuntime) -> Result<(), Fail> {
     Ok(())
 }
 
+/// The lines of the first two answers of the goal `p(X)` over the facts `p(1)` and `p(2)`.
+const FIRST: &str = "answer 1\nX = 1\n0 main: start\n0 main: end\nend 0 steps 4\n";
+
+const BOTH: &str = "answer 1\nX = 1\n0 main: start\n0 main: end\nend 0 steps 4\n\
+    answer 2\nX = 2\n0 main: start\n0 main: end\nend 0 steps 6\n";
+
+#[test]
+fn takes_options(rt: HostRuntime) -> Result<(), Fail> {
+    for (steps, answers, status, lines, last) in [
+        (
+            "--steps=1000000",
+            "--answers=3",
+            Status::Found,
+            BOTH,
+            "no more after 6 steps: 0 failed 0 deadlock 0 late\n",
+        ),
+        (
+            "--steps=6",
+            "--answers=2",
+            Status::Found,
+            BOTH,
+            "stopped after 6 steps\n",
+        ),
+        (
+            "--steps=5",
+            "--answers=2",
+            Status::Budget,
+            FIRST,
+            "budget after 5 steps\n",
+        ),
+        (
+            "--steps=4",
+            "--answers=1",
+            Status::Found,
+            FIRST,
+            "stopped after 4 steps\n",
+        ),
+        (
+            "--steps=3",
+            "--answers=1",
+            Status::Budget,
+            "",
+            "budget after 3 steps\n",
+        ),
+    ] {
+        let words = ["m", "p(X)", steps, answers];
+        let left = run_over(rt.alloc(), words.as_slice(), P, SMOOTH, SMOOTH)?;
+        assert_eq!(rt; left.status, status, "with {steps}");
+        let (front, rest) = left
+            .taken
+            .as_slice()
+            .split_at(lines.len().min(left.taken.len()));
+        assert_eq!(rt; front, lines.as_bytes(), "with {steps}");
+        assert_eq!(rt; rest, last.as_bytes(), "with {steps}");
+    }
+    Ok(())
+}
+
 #[test]
 fn refuses_words(rt: HostRuntime) -> Result<(), Fail> {
     for words in [
@@ -157,6 +215,8 @@ fn refuses_words(rt: HostRuntime) -> Result<(), Fail> {
         &["m", "true", "true"],
         &["-m", "true"],
         &["m", "-1"],
+        &["m", "true", "--steps", "0"],
+        &["m", "true", "--answers=1000001"],
     ] {
         let left = run_over(rt.alloc(), words, P, SMOOTH, SMOOTH)?;
         assert_eq!(rt; left.status, Status::Usage, "with {words:?}");

@@ -1,18 +1,15 @@
-use Rattle.std.proofs.Common.{refl, ap, subst, ◌∙◌}
-use Rattle.tp_outside.specs.Taken.{added, HasPrefix}
-use Rattle.tp_top.specs.Replies.{view_of}
-use Rattle.tp_top.proofs.RunLemmas.{out_of_memory, wrote, cut_short}
+use Rattle.std.proofs.Common.{inr, refl, ap, subst, sym, ◌<◌, ◌∙◌}
+use Rattle.tp_words.specs.Command.{words_of}
+use Rattle.tp_words.proofs.RequestLemmas.{answers_some}
+use Rattle.tp_top.proofs.RunLemmas.{asked_answers, out_of_memory}
 use Rattle.tp_top.proofs.program.run.Goals as goal
 
-pub returns-in_default-clause-ended : goal.returns-in_default-clause-ended
-returns-in_default-clause-ended g c = out_of_memory _ c.in_default.ensures.refused refl
+pub perform-requires : goal.perform-requires
+perform-requires g c = record {
+  answers =
+      subst (λ n. 0 < n) (sym (ap (λ q. q.answers) c.of.ensures ∙ asked_answers c.in-Ok.request))
+      (answers_some (words_of c.args.words.now) c.in-Ok.request c.in-Ok.ensures.ok);
+}
 
-pub returns-in-Ok-write_all-clause-ended : goal.returns-in-Ok-write_all-clause-ended
-returns-in-Ok-write_all-clause-ended g c =
-    wrote _ (view_of c.in-Ok.reply) c.in-Ok.ensures.reply
-    (c.in-Ok-write_all.ensures.all ∙ ap (added (g.W.Sink.taken c.args.sink.now)) c.as_bytes.ensures)
-
-pub returns-clause-ended : goal.returns-clause-ended
-returns-clause-ended g c =
-    cut_short _ (view_of c.in-Ok.reply) c.in-Ok.ensures.reply c.in-Err.ensures.rose
-    (subst (HasPrefix (g.W.Sink.taken c.args.sink.now) (g.W.Sink.taken c.write_all.new.sink)) c.as_bytes.ensures c.in-Err.ensures.prefix)
+pub returns-in-Err-NoMemory-clause-ended : goal.returns-in-Err-NoMemory-clause-ended
+returns-in-Err-NoMemory-clause-ended g c = out_of_memory _ (inr (refl, refl, refl)) refl refl

@@ -1,0 +1,58 @@
+use Rattle.std.proofs.Common.{Err, inl, refl, ap, subst, sym}
+use Rattle.tp_top.specs.Ended.{Ended, Run}
+use Rattle.tp_top.specs.Expected.{Answer, for_text}
+use Rattle.tp_top.specs.Told.{request_in}
+use Rattle.tp_top.specs.Written.{Writes}
+use Rattle.tp_top.proofs.RunLemmas.{long_written, out_of_memory, part_read, text_written}
+use Rattle.tp_top.proofs.program.perform.Goals as goal
+
+pub returns-in-Ok-clause-ended : goal.returns-in-Ok-clause-ended
+returns-in-Ok-clause-ended g c = λ words is.
+    let run : Run = (record {
+      held = g.S.Shelf.held c.args.shelf.now;
+      words = words;
+      reads_before = g.S.Shelf.faults c.args.shelf.now;
+      reads_after = g.S.Shelf.faults c.read_all.new.shelf;
+      writes_before = g.W.Sink.faults c.args.sink.now;
+      writes_after = g.W.Sink.faults c.answer.new.sink;
+      taken_before = g.W.Sink.taken c.args.sink.now;
+      taken_after = g.W.Sink.taken c.answer.new.sink;
+    }) in
+    let answered = subst (λ t. Writes (for_text t (request_in c.args.asked)) run.writes_before run.writes_after run.taken_before run.taken_after c.answer.result) c.deref.ensures.value c.answer.ensures.wrote in
+    subst (Ended run) (sym c.status_of.ensures)
+    (text_written run (request_in c.args.asked) c.in-Ok.text.items c.answer.result is c.in-Ok.ensures.all c.in-Ok.ensures.no_fault answered)
+
+pub returns-in-Err-TooLong-clause-ended : goal.returns-in-Err-TooLong-clause-ended
+returns-in-Err-TooLong-clause-ended g c = λ words is.
+    let run : Run = (record {
+      held = g.S.Shelf.held c.args.shelf.now;
+      words = words;
+      reads_before = g.S.Shelf.faults c.args.shelf.now;
+      reads_after = g.S.Shelf.faults c.read_all.new.shelf;
+      writes_before = g.W.Sink.faults c.args.sink.now;
+      writes_after = g.W.Sink.faults c.say-in-Err-TooLong.new.sink;
+      taken_before = g.W.Sink.taken c.args.sink.now;
+      taken_after = g.W.Sink.taken c.say-in-Err-TooLong.new.sink;
+    }) in
+    let said = subst (λ (a : Answer). Writes a run.writes_before run.writes_after run.taken_before run.taken_after c.say-in-Err-TooLong.result) c.too_long.ensures c.say-in-Err-TooLong.ensures.wrote in
+    subst (Ended run) (sym c.status_of-in-Err-TooLong.ensures)
+    (long_written run (request_in c.args.asked) c.say-in-Err-TooLong.result is
+    (c.in-Err-TooLong.ensures.too_long (ap Err c.in-Err-TooLong.field-0-is))
+    c.say-in-Err-TooLong.ensures.fault said)
+
+pub returns-in-Err-NoMemory-clause-ended : goal.returns-in-Err-NoMemory-clause-ended
+returns-in-Err-NoMemory-clause-ended g c = λ words is.
+    let run : Run = (record {
+      held = g.S.Shelf.held c.args.shelf.now;
+      words = words;
+      reads_before = g.S.Shelf.faults c.args.shelf.now;
+      reads_after = g.S.Shelf.faults c.read_all.new.shelf;
+      writes_before = g.W.Sink.faults c.args.sink.now;
+      writes_after = g.W.Sink.faults c.args.sink.now;
+      taken_before = g.W.Sink.taken c.args.sink.now;
+      taken_after = g.W.Sink.taken c.args.sink.now;
+    }) in
+    let refused = ap Err c.in-Err-NoMemory.field-0-is in
+    out_of_memory run
+    (inl (part_read run (request_in c.args.asked) is (c.in-Err-NoMemory.ensures.no_memory refused) (c.in-Err-NoMemory.ensures.no_memory_no_fault refused)))
+    refl refl

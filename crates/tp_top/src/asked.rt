@@ -1,0 +1,44 @@
+//! What a request asks for.
+
+ghost use Rattle.std.specs.Prelude.{◌≡◌};
+ghost use Rattle.tp_top.specs.Expected.{asked as asked_for};
+ghost use Rattle.tp_top.specs.Told.{request_in};
+
+use tp_words::Request;
+
+/// What a request asks for, its texts lent.
+#[derive(Clone, Copy)]
+pub struct Asked<'a> {
+    /// The name that the model is held under.
+    pub model: &'a str,
+    /// The text of the goal.
+    pub goal: &'a str,
+    /// How many steps the search may take.
+    pub steps: u64,
+    /// How many answers are wanted.
+    pub answers: u64,
+    /// Whether meters are printed behind each answer.
+    pub meters: bool,
+}
+
+impl<'a> Asked<'a> {
+    /// What this request asks for.
+    pub fn of(request: &'a Request) -> Asked<'a>
+        ensures { request_in result ≡ asked_for request.now }
+    {
+        let Request::Run {
+            model,
+            goal,
+            steps,
+            answers,
+            meters,
+        } = request;
+        Asked {
+            model: model.as_str(),
+            goal: goal.as_str(),
+            steps: *steps,
+            answers: *answers,
+            meters: *meters,
+        }
+    }
+}
