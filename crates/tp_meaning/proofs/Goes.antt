@@ -53,10 +53,12 @@ ended-valid w p v r =
 
 -- ---- wait
 
-tried-follows : (t : Turn) (g : Term) → TurnFits t → Below t.world.next g → Follows t.world (tried t g)
+-- the world in which the condition is tried follows
+pub tried-follows : (t : Turn) (g : Term) → TurnFits t → Below t.world.next g → Follows t.world (tried t g)
 tried-follows t g f h = going-follows t (Goal g (t.world.stamp + 1) ∷ Commit t.world.stamp ∷ t.rest) f.valid ((h, omega arith), (omega arith, later t f))
 
-parks : (t : Turn) (g : Term) → TurnFits t → Below t.world.next g → Valid (going t (Retry g ∷ t.rest))
+-- the world with the condition to be tried again is valid
+pub parks : (t : Turn) (g : Term) → TurnFits t → Below t.world.next g → Valid (going t (Retry g ∷ t.rest))
 parks t g f h = goes t (Retry g ∷ t.rest) f (h, later t f)
 
 pub await_again-follows : (t : Turn) (g : Term) → TurnFits t → Below t.world.next g → EachFollows t.world (await_again t g)

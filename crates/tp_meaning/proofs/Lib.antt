@@ -11,6 +11,7 @@ pub mod Acts
 pub mod Under
 pub mod Leaves
 pub mod Goes
+pub mod ProcessGoals
 pub mod Copies
 pub mod BuiltIns
 pub mod Rise
@@ -25,6 +26,7 @@ mod Rows
 mod RowsOfParts
 mod RowsOfControl
 mod RowsOfArith
+mod RowsOfProcesses
 pub mod OwnGoals
 mod OperationPlaces
 pub mod HeapLemmas

@@ -23,6 +23,7 @@ use Rattle.tp_meaning.proofs.Acts.{choose-follows}
 use Rattle.tp_meaning.proofs.Under.{Unifies, mgu-unifies, under-valid, replaced-below, all_replaced-below, below-more, bound-more}
 use Rattle.tp_meaning.proofs.BuiltIns.{AnswerFits, of_args-fits}
 use Rattle.tp_meaning.proofs.Goes.{TurnFits, later, goes, ended-valid, await_again-follows}
+use Rattle.tp_meaning.proofs.ProcessGoals.Acts.{act-follows}
 
 -- ---- user goals
 
@@ -139,7 +140,7 @@ built_in-follows t k ts f h =
 
 goal_by-follows : (base : Base) (t : Turn) (b : ℕ) (f : Name) (ts : Terms) (o : Option GoalKind) → AllByRecursion ClauseFits base → TurnFits t → b ≤ t.world.stamp → AllBelow t.world.next ts → IfOk (goal_by base t b f ts o) (EachFollows t.world)
 goal_by-follows base t b f ts (Some (kind.Control k)) a fit le h = control-follows t b k f ts fit.valid le h fit.rest
-goal_by-follows base t b f ts (Some (kind.Process k)) a fit le h = tt
+goal_by-follows base t b f ts (Some (kind.Process k)) a fit le h = act-follows t k f ts fit h
 goal_by-follows base t b f ts (Some (kind.BuiltIn k)) a fit le h = built_in-follows t k ts fit h
 goal_by-follows base t b f ts None a fit le h = user-follows base t f ts a fit h
 

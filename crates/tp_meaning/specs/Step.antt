@@ -11,7 +11,7 @@ use Rattle.tp_meaning.specs.Search.{Failed, Dead, Commit, Searched, Outcome, try
 use Rattle.tp_meaning.specs.Turn.{Turn, Gives, going, one, raised_at}
 use Rattle.tp_meaning.specs.Goals.{GoalKind, Control, Process, BuiltIn, goal_kind}
 use Rattle.tp_meaning.specs.Control.{control}
-use Rattle.tp_meaning.specs.Process.{await_again}
+use Rattle.tp_meaning.specs.Process.{act, await_again}
 use Rattle.tp_meaning.specs.Clauses.{Base, user_goal}
 use Rattle.tp_meaning.specs.Scheduler.{choose}
 
@@ -26,10 +26,10 @@ built_in t k ts = do
   a ← of_args k t.world.subst t.world.next ts
   Ok (answered t a)
 
--- what a goal gives, by its kind; process goals are unknown as yet
+-- what a goal gives, by its kind
 abbrev pub goal_by : Base → Turn → ℕ → Name → Terms → Option GoalKind → Checked Gives
 goal_by base t b f ts (Some (Control k)) = control t b k f ts
-goal_by base t b f ts (Some (Process k)) = Err (unknown f (count_of ts))
+goal_by base t b f ts (Some (Process k)) = act t k f ts
 goal_by base t b f ts (Some (BuiltIn k)) = built_in t k ts
 goal_by base t b f ts None = user_goal base t f ts
 

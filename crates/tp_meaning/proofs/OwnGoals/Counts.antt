@@ -6,6 +6,7 @@ use Rattle.tp_terms.specs.Term.{Name, names_eq}
 use Rattle.tp_meaning.specs.Goals.{GoalKind, GoalRow, goals, has_count, found_in, goal_kind}
 use Rattle.tp_meaning.specs.Goals as kind
 use Rattle.tp_meaning.specs.declared.goals.ControlGoal.TheVariants as control
+use Rattle.tp_meaning.specs.declared.goals.ProcessGoal.TheVariants as process
 
 -- the fewest arguments that a step looks at
 abbrev pub fewest : GoalKind → ℕ
@@ -16,6 +17,9 @@ fewest (kind.Control control.NotProvable) = 1
 fewest (kind.Control control.Call) = 1
 fewest (kind.Control control.Once) = 1
 fewest (kind.Control control.Between) = 3
+fewest (kind.Process process.New) = 4
+fewest (kind.Process process.Send) = 2
+fewest (kind.Process k) = 1
 fewest k = 0
 
 both : (a b : Bool) → (a && b) ≡ true → (a ≡ true) × (b ≡ true)
