@@ -54,6 +54,14 @@ impl Boxes {
         self.boxes[pid].get(place).copied()
     }
 
+    /// The number of messages in a box.
+    pub fn count(&self, pid: usize) -> usize
+        requires { pid < length self.now.boxes }
+        ensures { result ≡ length (box_of self.now.boxes pid) }
+    {
+        self.boxes[pid].len()
+    }
+
     /// Adds an empty box behind the others, and logs that.
     ///
     /// Answers `NoMemory` where memory is refused. Then boxes and log are as before.

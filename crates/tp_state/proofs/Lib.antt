@@ -1,3 +1,4 @@
 pub mod GoingBack
 pub mod Changes
 pub mod Marked
+pub mod Plans

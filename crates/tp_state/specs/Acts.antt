@@ -1,8 +1,10 @@
 -- What acts make of the contents of a world.
-use Rattle.std.specs.Prelude.{◌≡◌, ℕ, List, [], ◌∷◌, ◌++◌, length, map, Option, Some, None, Bool, true, false, slice_set, zero, suc, ℤ, int_lt, ◌&&◌, if◌then◌else◌}
+use Rattle.std.specs.Prelude.{◌≡◌, ℕ, List, [], ◌∷◌, ◌++◌, length, map, Option, Some, None, Bool, true, false, slice_set, zero, suc, ◌+◌, ℤ, int_lt, ◌&&◌, if◌then◌else◌}
+use Rattle.tp_terms.specs.declared.Limit.{Limit}
 use Rattle.tp_terms.specs.declared.Limit.TheVariants.{At, Inf}
 use Rattle.tp_terms.specs.declared.ProcStatus.{ProcStatus}
 use Rattle.tp_terms.specs.declared.ProcStatus.TheVariants.{Scheduled, Running, Parked, AwaitsMail, Ended}
+use Rattle.tp_terms.specs.declared.cells.AtomId.{AtomId}
 use Rattle.tp_terms.specs.declared.cells.Ref.{Ref}
 use Rattle.tp_terms.specs.declared.world.ItemId.{ItemId}
 use Rattle.tp_terms.specs.declared.world.Proc.{Proc}
@@ -14,6 +16,9 @@ use Rattle.tp_control.specs.declared.frames.Item.{Item}
 use Rattle.tp_control.specs.declared.frames.Item.TheVariants.{Goal}
 use Rattle.tp_control.specs.Lists.{items_at}
 use Rattle.tp_procs.specs.Processes.{is_live}
+use Rattle.tp_calendar.specs.Order.{put_slot}
+use Rattle.tp_mail.specs.Mail.{at_box}
+use Rattle.std.specs.List.{remove}
 use Rattle.tp_state.specs.Plain.{Plain}
 
 -- the running process has other items
@@ -111,3 +116,64 @@ is_before t (Some e) = int_lt e t
 -- another store
 abbrev pub with_store : Contents → Plain → Plain
 with_store c p = record p { store = c }
+
+-- ---- what processes do later, and their messages
+
+-- an entry of the next insertion number
+abbrev pub slot_at : ℕ → ℤ → Plain → Slot
+slot_at pid time p = record { time = time; number = p.insertion; pid = pid }
+
+-- a process goes on at a time
+abbrev pub planned : ℕ → ℤ → Plain → Plain
+planned pid time p = record p {
+  slots = put_slot (slot_at pid time p) p.slots;
+  insertion = p.insertion + 1;
+}
+
+-- a process more, with an empty box
+abbrev pub added : Proc → Plain → Plain
+added q p = record p { procs = p.procs ++ q ∷ []; boxes = p.boxes ++ [] ∷ [] }
+
+-- a process that hasn't started, with these items
+abbrev pub new_proc : AtomId → Limit → ItemId → Proc
+new_proc name end items = record {
+  name = name;
+  end = end;
+  started = false;
+  status = Scheduled;
+  items = Some items;
+}
+
+-- a process more, which hasn't started and has a goal to do
+abbrev pub made : AtomId → Limit → Ref → Plain → Plain
+made name end goal p =
+    added (new_proc name end (record { at = length p.frames }))
+    (record p { frames = p.frames ++ (Goal goal 0 ∷ []) ∷ [] })
+
+-- a message at the end of a box
+abbrev pub delivered : ℕ → Ref → Plain → Plain
+delivered pid message p = record p { boxes = at_box pid (λ b. b ++ message ∷ []) p.boxes }
+
+-- the message at a place taken out of a box
+abbrev pub taken_out : ℕ → ℕ → Plain → Plain
+taken_out pid place p = record p { boxes = at_box pid (λ b. remove b place) p.boxes }
+
+-- the process awaits mail
+abbrev pub awaits_mail : Proc → Bool
+awaits_mail q = elim (q.status) [
+  | AwaitsMail ↦ true
+  | Scheduled ↦ false
+  | Running ↦ false
+  | Ended ↦ false
+  | Parked m ↦ false
+]
+
+-- a process, which is as given, goes on now where it awaits mail
+abbrev pub roused : ℕ → Proc → Plain → Plain
+roused pid q p =
+    if awaits_mail q then planned pid p.clock (changed pid (record q { status = Scheduled }) p)
+    else p
+
+-- a message was sent to a process, which is as given
+abbrev pub posted : ℕ → Ref → ℕ → Proc → Plain → Plain
+posted from message to q p = roused to q (noted from (event.Send message to) (delivered to message p))

@@ -4,6 +4,7 @@
 mod acts;
 mod asks;
 mod back;
+mod plan;
 pub mod state;
 
 pub use state::State;
