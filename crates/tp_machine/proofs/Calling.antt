@@ -97,10 +97,10 @@ module _ (m : Machine) (t : Task) (c : Call) (h : Calls m t c (Some (Control con
 
   -- a variable, an integer, and too many arguments
   pub unbound_refused : (c.count ≡ 1 → ⊥) → (v : ℕ) → seen m.atoms m.state.store c.first.at ≡ Var v → IsCause m t cause.Unbound
-  unbound_refused more v e = gives_error m t c (Control control.Call) unbound h (λ w b. with_more more w b ∙ ap (λ g. called_with w g (behind_first args)) e)
+  unbound_refused more v e = record { culprit = tt; stands = tt; gives = gives_error m t c (Control control.Call) unbound h (λ w b. with_more more w b ∙ ap (λ g. called_with w g (behind_first args)) e) }
 
   pub number_refused : (c.count ≡ 1 → ⊥) → (z : _) → seen m.atoms m.state.store c.first.at ≡ Int z → IsCause m t (cause.NotCallable c.first)
-  number_refused more z e = (more_there, subst (λ g. GivesError m t (type_error "callable" g)) (sym e) (gives_error m t c (Control control.Call) (type_error "callable" (Int z)) h (λ w b. with_more more w b ∙ ap (λ g. called_with w g (behind_first args)) e)))
+  number_refused more z e = record { culprit = more_there; stands = tt; gives = subst (λ g. GivesError m t (type_error "callable" g)) (sym e) (gives_error m t c (Control control.Call) (type_error "callable" (Int z)) h (λ w b. with_more more w b ∙ ap (λ g. called_with w g (behind_first args)) e)) }
 
   -- the goal that gets them, by its name and its own arguments
   module _ (g : Call) (more : c.count ≡ 1 → ⊥) (is : IsCall m.atoms m.state.store c.first g) where
@@ -122,7 +122,7 @@ module _ (m : Machine) (t : Task) (c : Call) (h : Calls m t c (Some (Control con
         ∙ ap (λ n. arity_fits n >> called w (with_args (term_of (name_at m.atoms g.name.at) its_args) added)) in_all
 
     pub too_many : 256 < g.count + c.count → IsCause m t cause.TooManyArguments
-    too_many lt = gives_error m t c (Control control.Call) (representation_error "max_arity") h (λ w b. named_gives w b ∙ ap (λ r. r >> called w (with_args (term_of (name_at m.atoms g.name.at) its_args) added)) (many_raise (g.count + (c.count - 1)) (let le = least in omega arith)))
+    too_many lt = record { culprit = tt; stands = tt; gives = gives_error m t c (Control control.Call) (representation_error "max_arity") h (λ w b. named_gives w b ∙ ap (λ r. r >> called w (with_args (term_of (name_at m.atoms g.name.at) its_args) added)) (many_raise (g.count + (c.count - 1)) (let le = least in omega arith))) }
 
     -- the goal of a place that shows it with them
     pub joined_gives : g.count + c.count ≤ 256 → (goal : Term) → goal ≡ with_args (seen m.atoms m.state.store c.first.at) (args_seen m.atoms m.state.store (c.first.at + 1) (c.count - 1)) → (w : Turn) (b : ℕ) → call_gives m c w b ≡ called w goal
@@ -179,12 +179,10 @@ module _ (m : Machine) (t : Task) (c : Call) (goal : Ref) (h : CallsGoal m t c g
   refused_goal e x w b = h.is w b ∙ ap (λ r. r >>= (λ g. Ok (one (going w (world.Goal g (w.world.stamp + 1) ∷ w.rest))))) x
 
   goal_refused : (why : Cause) (new : Contents) → Enters m.atoms m.state.store goal (entered.Refused why) new → IsCause m t why
-  goal_refused cause.Unbound new r = gives_error m t c (Control control.Call) _ h.calls (refused_goal _ r.is)
-  goal_refused (cause.Number value) new r = absurd r
-  goal_refused (cause.Unknown name count) new r = absurd r
-  goal_refused (cause.NotInteger term) new r = absurd r
-  goal_refused cause.TooManyArguments new r = absurd r
-  goal_refused (cause.NotCallable culprit) new r = subst (λ (p : Ref). IsCause m t (cause.NotCallable p)) (sym r.0) (h.within, gives_error m t c (Control control.Call) _ h.calls (refused_goal _ r.1.is))
+  goal_refused cause.Unbound new r = record { culprit = tt; stands = tt; gives = gives_error m t c (Control control.Call) _ h.calls (refused_goal _ r.is) }
+  goal_refused (cause.NotCallable culprit) new r =
+      subst (λ (p : Ref). IsCause m t (cause.NotCallable p)) (sym r.0) (record { culprit = h.within; stands = tt; gives = gives_error m t c (Control control.Call) _ h.calls (refused_goal _ r.1.is) })
+  goal_refused _ new r = absurd r
 
   -- it is entered, or the goal raises an error
   pub call_entered : (s : State) (r : Entered) → IsMachine m → s ≡ record m.state { store = s.store } → IsStore s.store → Enters m.atoms m.state.store goal r s.store → CallEntered (record m { state = s }) t c r

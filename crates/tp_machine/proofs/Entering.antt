@@ -25,11 +25,8 @@ use Rattle.tp_machine.proofs.Step.Refuse.{not_provable_refused, once_refused}
 -- where a goal is refused, the store stays
 pub refused_store : (names : List Name) (old new : Contents) (goal : Ref) (why : Cause) → Enters names old goal (Refused why) new → new ≡ old
 refused_store names old new goal cause.Unbound h = h.same
-refused_store names old new goal (cause.Number value) h = absurd h
-refused_store names old new goal (cause.Unknown name count) h = absurd h
 refused_store names old new goal (cause.NotCallable culprit) h = h.1.same
-refused_store names old new goal (cause.NotInteger term) h = absurd h
-refused_store names old new goal cause.TooManyArguments h = absurd h
+refused_store names old new goal _ h = absurd h
 
 -- the machine stands where it stood
 pub entering_rests : (m : Machine) (s : State) (goal : Ref) (r : Entered) → IsMachine m → s ≡ record m.state { store = s.store } → IsStore s.store → Enters m.atoms m.state.store goal r s.store → Rests m (record m { state = s })

@@ -21,3 +21,4 @@ pub mod Later
 pub mod SamePrograms
 pub mod Lent
 pub mod Again
+pub mod Times

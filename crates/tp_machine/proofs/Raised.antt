@@ -4,17 +4,17 @@ use Rattle.tp_terms.specs.declared.cells.AtomId.{AtomId}
 use Rattle.tp_terms.specs.declared.cells.Ref.{Ref}
 use Rattle.tp_terms.specs.declared.cells.Cell.{Cell}
 use Rattle.tp_terms.specs.declared.cells.Cell.TheVariants as cell
-use Rattle.tp_terms.specs.declared.symbols.TheConstants.{SLASH, ERROR, INSTANTIATION_ERROR, TYPE_ERROR, EXISTENCE_ERROR, REPRESENTATION_ERROR, CALLABLE, INTEGER, MAX_ARITY, PROCEDURE}
+use Rattle.tp_terms.specs.declared.symbols.TheConstants.{SLASH, ERROR, INSTANTIATION_ERROR, TYPE_ERROR, EXISTENCE_ERROR, PERMISSION_ERROR, ATOM, CALLABLE, CREATE, INTEGER, LIST, PROCEDURE, PROCESS}
 use Rattle.tp_terms.specs.Term.{Name, Term, Int, Atom, Comp, NoMore, More, atom, comp}
 use Rattle.tp_terms.specs.Names.{IsTable}
 use Rattle.tp_terms.specs.StartNames.{start_names}
 use Rattle.tp_terms.specs.Shown.{name_at, shows, shown_from, IsNamed, AreNamed, StandsBefore}
 use Rattle.tp_terms.proofs.ShownLemmas.{shows-cell, shown_from-append, AreNamed-append}
 use Rattle.tp_terms.proofs.StartLemmas.{start-name_at, start-within}
-use Rattle.tp_meaning.specs.Checks.{unbound, type_error, representation_error, existence_error, indicator, error}
+use Rattle.tp_meaning.specs.Checks.{unbound, type_error, domain_error, evaluation_error, representation_error, existence_error, permission_error, indicator, error}
 use Rattle.tp_store.specs.Contents.{Contents, IsStore, IsNumbered, Keeps, AddsCells, with_cell}
 use Rattle.tp_machine.specs.Built.{Built}
-use Rattle.tp_machine.specs.Causes.{wrong_type}
+use Rattle.tp_machine.specs.Causes.{kind_of_word, kind_with, wrong_domain}
 
 -- the contents with further cells
 abbrev pub with_cells : Contents → List Cell → Contents
@@ -70,6 +70,10 @@ module _ (names : List Name) (cs ds : List Cell) where
       → shows names (cs ++ ds) at ≡ Comp (name_at names name.at) (More (shows names (cs ++ ds) first.at) (More (shows names (cs ++ ds) (suc first.at)) NoMore))
   shows-pair k at name first e h le = shows-at k at (cell.Comp name first 2) e h (omega arith, le)
 
+  pub shows-triple : (k at : ℕ) (name : AtomId) (first : Ref) → at ≡ length cs + k → slice_get ds k ≡ Some (cell.Comp name first 3) → first.at + 3 ≤ at
+      → shows names (cs ++ ds) at ≡ Comp (name_at names name.at) (More (shows names (cs ++ ds) first.at) (More (shows names (cs ++ ds) (suc first.at)) (More (shows names (cs ++ ds) (suc (suc first.at))) NoMore)))
+  shows-triple k at name first e h le = shows-at k at (cell.Comp name first 3) e h (omega arith, le)
+
 -- names of the start
 module _ (names : List Name) (table : IsTable names) where
   pub is_slash : name_at names 69 ≡ codes "/"
@@ -100,23 +104,98 @@ module _ (names : List Name) (table : IsTable names) where
   unfolding start_names
   is_integer = start-name_at names table 25 (codes "integer") refl
 
+  pub is_domain : name_at names 81 ≡ codes "domain_error"
+  unfolding start_names
+  is_domain = start-name_at names table 81 (codes "domain_error") refl
+
+  pub is_permission : name_at names 83 ≡ codes "permission_error"
+  unfolding start_names
+  is_permission = start-name_at names table 83 (codes "permission_error") refl
+
   pub is_representation : name_at names 84 ≡ codes "representation_error"
   unfolding start_names
   is_representation = start-name_at names table 84 (codes "representation_error") refl
+
+  pub is_evaluation : name_at names 85 ≡ codes "evaluation_error"
+  unfolding start_names
+  is_evaluation = start-name_at names table 85 (codes "evaluation_error") refl
 
   pub is_max_arity : name_at names 96 ≡ codes "max_arity"
   unfolding start_names
   is_max_arity = start-name_at names table 96 (codes "max_arity") refl
 
-  -- types that terms aren't of
-  pub not_callable : (t : Term) → wrong_type (name_at names CALLABLE.at) t ≡ type_error "callable" t
-  not_callable t = ap (λ f. wrong_type f t) is_callable
+  pub is_int_overflow : name_at names 98 ≡ codes "int_overflow"
+  unfolding start_names
+  is_int_overflow = start-name_at names table 98 (codes "int_overflow") refl
 
-  pub not_integer : (t : Term) → wrong_type (name_at names INTEGER.at) t ≡ type_error "integer" t
-  not_integer t = ap (λ f. wrong_type f t) is_integer
+  pub is_atom : name_at names 24 ≡ codes "atom"
+  unfolding start_names
+  is_atom = start-name_at names table 24 (codes "atom") refl
 
-  pub type_names : (CALLABLE.at < length names) × (INTEGER.at < length names)
-  type_names = (start-within names table 28 (omega arith), start-within names table 25 (omega arith))
+  pub is_process : name_at names 89 ≡ codes "process"
+  unfolding start_names
+  is_process = start-name_at names table 89 (codes "process") refl
+
+  pub is_list : name_at names 87 ≡ codes "list"
+  unfolding start_names
+  is_list = start-name_at names table 87 (codes "list") refl
+
+  pub is_create : name_at names 90 ≡ codes "create"
+  unfolding start_names
+  is_create = start-name_at names table 90 (codes "create") refl
+
+  pub is_process_name : name_at names 93 ≡ codes "process_name"
+  unfolding start_names
+  is_process_name = start-name_at names table 93 (codes "process_name") refl
+
+  pub is_empty_list : name_at names 1 ≡ codes "[]"
+  unfolding start_names
+  is_empty_list = start-name_at names table 1 (codes "[]") refl
+
+  pub is_not_less : name_at names 94 ≡ codes "not_less_than_zero"
+  unfolding start_names
+  is_not_less = start-name_at names table 94 (codes "not_less_than_zero") refl
+
+  pub is_start_time : name_at names 91 ≡ codes "start_time"
+  unfolding start_names
+  is_start_time = start-name_at names table 91 (codes "start_time") refl
+
+  pub is_end_time : name_at names 92 ≡ codes "end_time"
+  unfolding start_names
+  is_end_time = start-name_at names table 92 (codes "end_time") refl
+
+  -- kinds of error that have a culprit, by their names
+  pub not_callable : (t : Term) → kind_with (name_at names TYPE_ERROR.at) (name_at names CALLABLE.at) t ≡ type_error "callable" t
+  not_callable t = ap (λ e. kind_with e (name_at names CALLABLE.at) t) is_type ∙ ap (λ f. kind_with (codes "type_error") f t) is_callable
+
+  pub not_integer : (t : Term) → kind_with (name_at names TYPE_ERROR.at) (name_at names INTEGER.at) t ≡ type_error "integer" t
+  not_integer t = ap (λ e. kind_with e (name_at names INTEGER.at) t) is_type ∙ ap (λ f. kind_with (codes "type_error") f t) is_integer
+
+  pub not_atom : (t : Term) → kind_with (name_at names TYPE_ERROR.at) (name_at names ATOM.at) t ≡ type_error "atom" t
+  not_atom t = ap (λ e. kind_with e (name_at names ATOM.at) t) is_type ∙ ap (λ f. kind_with (codes "type_error") f t) is_atom
+
+  pub not_list : (t : Term) → kind_with (name_at names TYPE_ERROR.at) (name_at names LIST.at) t ≡ type_error "list" t
+  not_list t = ap (λ e. kind_with e (name_at names LIST.at) t) is_type ∙ ap (λ f. kind_with (codes "type_error") f t) is_list
+
+  pub no_process : (t : Term) → kind_with (name_at names EXISTENCE_ERROR.at) (name_at names PROCESS.at) t ≡ existence_error "process" t
+  no_process t = ap (λ e. kind_with e (name_at names PROCESS.at) t) is_existence ∙ ap (λ f. kind_with (codes "existence_error") f t) is_process
+
+  pub is_wrong_domain : (of : Name) (t : Term) → kind_with (name_at names 81) of t ≡ wrong_domain of t
+  is_wrong_domain of t = ap (λ f. kind_with f of t) is_domain
+
+  pub is_empty_name : kind_with (name_at names 81) (name_at names 93) (Atom (name_at names 1)) ≡ domain_error "process_name" (atom "[]")
+  is_empty_name = is_wrong_domain (name_at names 93) (Atom (name_at names 1)) ∙ ap (λ f. wrong_domain f (Atom (name_at names 1))) is_process_name ∙ ap (λ f. wrong_domain (codes "process_name") (Atom f)) is_empty_list
+
+  -- those that have a word
+  pub is_too_many : kind_of_word (name_at names 84) (name_at names 96) ≡ representation_error "max_arity"
+  is_too_many = ap (λ f. kind_of_word f (name_at names 96)) is_representation ∙ ap (kind_of_word (codes "representation_error")) is_max_arity
+
+  pub is_overflow : kind_of_word (name_at names 85) (name_at names 98) ≡ evaluation_error "int_overflow"
+  is_overflow = ap (λ f. kind_of_word f (name_at names 98)) is_evaluation ∙ ap (kind_of_word (codes "evaluation_error")) is_int_overflow
+
+  -- names up to the last are of the table
+  pub name_within : (at : ℕ) → at < 103 → at < length names
+  name_within at lt = start-within names table at lt
 
   pub is_procedure : name_at names 88 ≡ codes "procedure"
   unfolding start_names
@@ -139,25 +218,39 @@ module _ (names : List Name) (table : IsTable names) where
         built (cell.Atom INSTANTIATION_ERROR ∷ []) at.at unbound e (start-within names table 79 (omega arith), tt) (omega (arith, place))
         (shows-at names old.cells (cell.Atom INSTANTIATION_ERROR ∷ []) 0 at.at (cell.Atom INSTANTIATION_ERROR) (omega (arith, place)) refl tt ∙ ap Atom is_unbound)
 
-    pub type_built : (of : AtomId) (what at : Ref) (x : Cell) → of.at < length names → StandsBefore (length old.cells) x → IsNamed (length names) x → what.at ≡ length old.cells → at.at ≡ length old.cells + 2
-        → new ≡ with_cells old (cell.Atom of ∷ x ∷ cell.Comp TYPE_ERROR what 2 ∷ []) → Built names old new at.at (wrong_type (name_at names of.at) (shown_from names old.cells x))
-    type_built of what at x within before atoms first place e =
-        let ds = cell.Atom of ∷ x ∷ cell.Comp TYPE_ERROR what 2 ∷ [] in
-        let culprit = shown_from names old.cells x in
-        built ds at.at (wrong_type (name_at names of.at) culprit) e (within, (atoms, (start-within names table 80 (omega arith), tt))) (omega (arith, place))
-        (shows-pair names old.cells ds 2 at.at TYPE_ERROR what place refl (omega (arith, first, place))
-        ∙ ap (λ t. Comp (name_at names 80) (More t (More (shows names (old.cells ++ ds) (suc what.at)) NoMore))) (shows-at names old.cells ds 0 what.at (cell.Atom of) (omega (arith, first)) refl tt)
-        ∙ ap (λ t. Comp (name_at names 80) (More (Atom (name_at names of.at)) (More t NoMore))) (shows-at names old.cells ds 1 (suc what.at) x (omega (arith, first)) refl (before-longer (length old.cells) (suc what.at) x (omega (arith, first)) before) ∙ shown_from-append names old.cells ds x before)
-        ∙ ap (λ f. Comp f (More (Atom (name_at names of.at)) (More culprit NoMore))) is_type)
+    pub culprit_built : (kind of : AtomId) (what at : Ref) (x : Cell) → kind.at < length names → of.at < length names → StandsBefore (length old.cells) x → IsNamed (length names) x → what.at ≡ length old.cells → at.at ≡ length old.cells + 2
+        → new ≡ with_cells old (cell.Atom of ∷ x ∷ cell.Comp kind what 2 ∷ []) → Built names old new at.at (kind_with (name_at names kind.at) (name_at names of.at) (shown_from names old.cells x))
+    culprit_built kind of what at x known within before atoms first place e =
+        let ds = cell.Atom of ∷ x ∷ cell.Comp kind what 2 ∷ [] in
+        let f = name_at names kind.at in
+        built ds at.at (kind_with (name_at names kind.at) (name_at names of.at) (shown_from names old.cells x)) e (within, (atoms, (known, tt))) (omega (arith, place))
+        (shows-pair names old.cells ds 2 at.at kind what place refl (omega (arith, first, place))
+        ∙ ap (λ t. Comp f (More t (More (shows names (old.cells ++ ds) (suc what.at)) NoMore))) (shows-at names old.cells ds 0 what.at (cell.Atom of) (omega (arith, first)) refl tt)
+        ∙ ap (λ t. Comp f (More (Atom (name_at names of.at)) (More t NoMore))) (shows-at names old.cells ds 1 (suc what.at) x (omega (arith, first)) refl (before-longer (length old.cells) (suc what.at) x (omega (arith, first)) before) ∙ shown_from-append names old.cells ds x before))
 
-    pub arity_built : (what at : Ref) → what.at ≡ length old.cells → at.at ≡ length old.cells + 1 → new ≡ with_cells old (cell.Atom MAX_ARITY ∷ cell.Comp REPRESENTATION_ERROR what 1 ∷ []) → Built names old new at.at (representation_error "max_arity")
-    arity_built what at first place e =
-        let ds = cell.Atom MAX_ARITY ∷ cell.Comp REPRESENTATION_ERROR what 1 ∷ [] in
-        built ds at.at (representation_error "max_arity") e (start-within names table 96 (omega arith), (start-within names table 84 (omega arith), tt)) (omega (arith, place))
-        (shows-at names old.cells ds 1 at.at (cell.Comp REPRESENTATION_ERROR what 1) place refl (omega arith, omega (arith, first, place))
-        ∙ ap (λ t. Comp (name_at names 84) (More t NoMore)) (shows-at names old.cells ds 0 what.at (cell.Atom MAX_ARITY) (omega (arith, first)) refl tt)
-        ∙ ap (λ f. Comp f (More (Atom (name_at names 96)) NoMore)) is_representation
-        ∙ ap (λ f. comp "representation_error" (Atom f ∷ [])) is_max_arity)
+    pub word_built : (kind word : AtomId) (what at : Ref) → kind.at < length names → word.at < length names → what.at ≡ length old.cells → at.at ≡ length old.cells + 1 → new ≡ with_cells old (cell.Atom word ∷ cell.Comp kind what 1 ∷ [])
+        → Built names old new at.at (kind_of_word (name_at names kind.at) (name_at names word.at))
+    word_built kind word what at known within first place e =
+        let ds = cell.Atom word ∷ cell.Comp kind what 1 ∷ [] in
+        built ds at.at (kind_of_word (name_at names kind.at) (name_at names word.at)) e (within, (known, tt)) (omega (arith, place))
+        (shows-at names old.cells ds 1 at.at (cell.Comp kind what 1) place refl (omega arith, omega (arith, first, place))
+        ∙ ap (λ t. Comp (name_at names kind.at) (More t NoMore)) (shows-at names old.cells ds 0 what.at (cell.Atom word) (omega (arith, first)) refl tt))
+
+    pub taken_built : (act at : Ref) (x : Cell) → StandsBefore (length old.cells) x → IsNamed (length names) x → act.at ≡ length old.cells → at.at ≡ length old.cells + 3
+        → new ≡ with_cells old (cell.Atom CREATE ∷ cell.Atom PROCESS ∷ x ∷ cell.Comp PERMISSION_ERROR act 3 ∷ []) → Built names old new at.at (permission_error "create" "process" (shown_from names old.cells x))
+    taken_built act at x before atoms first place e =
+        let ds = cell.Atom CREATE ∷ cell.Atom PROCESS ∷ x ∷ cell.Comp PERMISSION_ERROR act 3 ∷ [] in
+        let cs = old.cells ++ ds in
+        let culprit = shown_from names old.cells x in
+        built ds at.at (permission_error "create" "process" (shown_from names old.cells x)) e
+        (start-within names table 90 (omega arith), (start-within names table 89 (omega arith), (atoms, (start-within names table 83 (omega arith), tt)))) (omega (arith, place))
+        (shows-triple names old.cells ds 3 at.at PERMISSION_ERROR act place refl (omega (arith, first, place))
+        ∙ ap (λ t. Comp (name_at names 83) (More t (More (shows names cs (suc act.at)) (More (shows names cs (suc (suc act.at))) NoMore)))) (shows-at names old.cells ds 0 act.at (cell.Atom CREATE) (omega (arith, first)) refl tt)
+        ∙ ap (λ t. Comp (name_at names 83) (More (Atom (name_at names 90)) (More t (More (shows names cs (suc (suc act.at))) NoMore)))) (shows-at names old.cells ds 1 (suc act.at) (cell.Atom PROCESS) (omega (arith, first)) refl tt)
+        ∙ ap (λ t. Comp (name_at names 83) (More (Atom (name_at names 90)) (More (Atom (name_at names 89)) (More t NoMore)))) (shows-at names old.cells ds 2 (suc (suc act.at)) x (omega (arith, first)) refl (before-longer (length old.cells) (suc (suc act.at)) x (omega (arith, first)) before) ∙ shown_from-append names old.cells ds x before)
+        ∙ ap (λ f. Comp f (More (Atom (name_at names 90)) (More (Atom (name_at names 89)) (More culprit NoMore)))) is_permission
+        ∙ ap (λ f. comp "permission_error" (Atom f ∷ Atom (name_at names 89) ∷ culprit ∷ [])) is_create
+        ∙ ap (λ f. comp "permission_error" (atom "create" ∷ Atom f ∷ culprit ∷ [])) is_process)
 
     pub error_built : (kind at : Ref) (process : AtomId) → kind.at + 1 ≡ length old.cells → at.at ≡ length old.cells + 1 → process.at < length names → new ≡ with_cells old (cell.Atom process ∷ cell.Comp ERROR kind 2 ∷ [])
         → ((ds : List Cell) → shows names (old.cells ++ ds) kind.at ≡ shows names old.cells kind.at) → Built names old new at.at (error (shows names old.cells kind.at) (name_at names process.at))

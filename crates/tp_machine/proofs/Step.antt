@@ -16,3 +16,12 @@ pub mod Equal
 pub mod Counted
 pub mod Back
 pub mod BuiltIns
+pub mod United
+pub mod Acting
+pub mod Holding
+pub mod Making
+pub mod Waiting
+pub mod Awaiting
+pub mod Taking
+pub mod Receiving
+pub mod Sending

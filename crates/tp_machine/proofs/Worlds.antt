@@ -3,3 +3,6 @@ pub mod Items
 pub mod Stores
 pub mod Procs
 pub mod Names
+pub mod Plans
+pub mod Mail
+pub mod Made

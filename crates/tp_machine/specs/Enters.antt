@@ -37,12 +37,9 @@ pub record IsRefused (names : List Name) (old : Contents) (goal : Ref) (kind : T
 abbrev pub Enters : List Name → Contents → Ref → Entered → Contents → Type 0
 Enters names old goal (Goal place) new = HasEntered names old goal place new
 Enters names old goal (Refused cause.Unbound) new = IsRefused names old goal unbound new
-Enters names old goal (Refused (cause.Number value)) new = ⊥
-Enters names old goal (Refused (cause.Unknown name count)) new = ⊥
-Enters names old goal (Refused (cause.NotInteger term)) new = ⊥
-Enters names old goal (Refused cause.TooManyArguments) new = ⊥
 Enters names old goal (Refused (cause.NotCallable culprit)) new = (culprit ≡ goal) ×
     IsRefused names old goal (type_error "callable" (seen names old goal.at)) new
+Enters names old goal (Refused _) new = ⊥
 
 -- ---- the machine
 

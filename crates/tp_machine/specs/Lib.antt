@@ -14,3 +14,8 @@ pub mod Between
 pub mod Chooses
 pub mod Start
 pub mod BuiltIns
+pub mod Acting
+pub mod Times
+pub mod Making
+pub mod Mail
+pub mod Sending

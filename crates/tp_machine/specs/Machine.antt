@@ -1,5 +1,5 @@
 -- The machine of the code: its world and choices, and what holds of them.
-use Rattle.std.specs.Prelude.{◌≡◌, ℕ, Bool, true, false, ◌+◌, ◌<◌, ◌≤◌, ◌^◌, List, [], ◌∷◌, ◌++◌, map, reverse, drop, length, Option, Some, None, IsTrue, is_some}
+use Rattle.std.specs.Prelude.{◌≡◌, ℕ, Bool, true, false, ◌+◌, ◌<◌, ◌≤◌, ◌^◌, ◌-◌, List, [], ◌∷◌, ◌++◌, map, reverse, drop, length, Option, Some, None, IsTrue, is_some}
 use Rattle.tp_terms.specs.declared.cells.Ref.{Ref}
 use Rattle.tp_terms.specs.Term.{Name, Term, Terms, term_of, count_of}
 use Rattle.tp_terms.specs.Shown.{AreNamed}
@@ -10,7 +10,10 @@ use Rattle.tp_meaning.specs.Body.{body}
 use Rattle.tp_meaning.specs.Goals.{goal_kind}
 use Rattle.tp_meaning.specs.declared.goals.ControlGoal.{ControlGoal}
 use Rattle.tp_meaning.specs.declared.goals.ControlGoal.TheVariants as control
-use Rattle.tp_meaning.specs.declared.goals.GoalKind.TheVariants.{Control}
+use Rattle.tp_meaning.specs.declared.goals.GoalKind.TheVariants.{Control, Process}
+use Rattle.tp_meaning.specs.declared.goals.ProcessGoal.TheVariants.{Wait, WaitFor}
+use Rattle.tp_meaning.specs.Control.{arg}
+use Rattle.tp_meaning.specs.Subst.{mgu}
 use Rattle.tp_meaning.specs.Clauses.{Clause, Base, predicate}
 use Rattle.tp_meaning.specs.Machine as machine
 use Rattle.tp_meaning.specs.Machine.{IsChoice, stepped, rewound, resumed}
@@ -18,7 +21,8 @@ use Rattle.tp_meaning.specs.Step.{searched}
 use Rattle.tp_meaning.specs.Machine.{HasStack}
 use Rattle.tp_meaning.specs.Valid.{Valid}
 use Rattle.tp_meaning.specs.Holds.{Holds, ChoiceHolds, Stands}
-use Rattle.tp_store.specs.Contents.{seen}
+use Rattle.tp_mail.specs.Mail.{box_of}
+use Rattle.tp_store.specs.Contents.{seen, subst_of}
 use Rattle.tp_clauses.specs.Contents.{IsBase, base_of}
 use Rattle.tp_control.specs.declared.frames.Item.{Item}
 use Rattle.tp_control.specs.declared.frames.Item.TheVariants.{Goal, Retry}
@@ -152,16 +156,50 @@ pub record IsChoosing (names : List Name) (p : Plain) : Type 0 where
   pub kind : goal_kind name (count_of args) ≡ Some (Control control)
   pub two : has_second control ≡ true
 
+-- the running process stands at a `wait`
+pub record IsWaiting (names : List Name) (p : Plain) : Type 0 where
+  pub process : ℕ
+  pub running : p.running ≡ Some process
+  pub goal : Ref
+  pub barrier : ℕ
+  pub rest : List Item
+  pub list : items_in p ≡ Goal goal barrier ∷ rest
+  pub name : Name
+  pub args : Terms
+  pub is : seen names p.store goal.at ≡ term_of name args
+  pub kind : goal_kind name (count_of args) ≡ Some (Process Wait)
+
 -- the running process stands where the second of two worlds is next
 pub data IsSecond (names : List Name) (p : Plain) : Type 0 where
   again : IsAgain p → IsSecond names p
   choosing : IsChoosing names p → IsSecond names p
+  waiting : IsWaiting names p → IsSecond names p
+
+-- the running process stands at a `wait_for`, and the message at a place of its box has a unifier
+-- with the argument
+pub record IsMail (names : List Name) (p : Plain) (place : ℕ) : Type 0 where
+  pub process : ℕ
+  pub running : p.running ≡ Some process
+  pub goal : Ref
+  pub barrier : ℕ
+  pub rest : List Item
+  pub list : items_in p ≡ Goal goal barrier ∷ rest
+  pub name : Name
+  pub args : Terms
+  pub is : seen names p.store goal.at ≡ term_of name args
+  pub kind : goal_kind name (count_of args) ≡ Some (Process WaitFor)
+  pub message : Ref
+  pub more : List Ref
+  pub here : drop place (box_of p.boxes process) ≡ message ∷ more
+  pub fits : is_some (mgu (subst_of names p.store) (seen names p.store message.at) (arg 0 args))
+      ≡ true
+  pub few : place < 2 ^ 64 - 1
 
 -- what is next can be gone on with
 abbrev pub GoesOn : List Name → Base → Plain → Alt → Type 0
 GoesOn names base p (alt.Clause place) = IsHit names base p place
 GoesOn names base p alt.Second = IsSecond names p
-GoesOn names base p (alt.Message place) = ⊥
+GoesOn names base p (alt.Message place) = IsMail names p place
 
 -- A choice whose marks can be gone back to, and whose next world can be gone on with there.
 pub record ChoiceFits (names : List Name) (base : Base) (h : Held) (c : Choice) : Type 0 where

@@ -1,17 +1,17 @@
 -- What a machine meets before a step.
-use Rattle.std.specs.Prelude.{◌≡◌, ℕ, true, false, ◌+◌, ◌<◌, ◌≤◌, ◌^◌, ◌-◌, List, ◌∷◌, length, drop, position, Option, Some, None, IfSome, Err}
+use Rattle.std.specs.Prelude.{◌≡◌, ℕ, true, false, ◌+◌, ◌<◌, ◌≤◌, ◌^◌, ◌-◌, List, ◌∷◌, length, map, drop, position, Option, Some, None, IfSome, Err}
 use Rattle.std.specs.List.{list_any, position_from}
 use Rattle.tp_terms.specs.declared.world.ItemId.{ItemId}
 use Rattle.tp_terms.specs.declared.world.Slot.{Slot}
 use Rattle.tp_terms.specs.declared.cells.Ref.{Ref}
-use Rattle.tp_terms.specs.Term.{Name, Term, Terms, Var, Int, term_of, count_of}
+use Rattle.tp_terms.specs.Term.{Name, Term, Terms, Var, Int, term_of}
 use Rattle.tp_terms.specs.Shown.{name_at}
-use Rattle.tp_meaning.specs.Checks.{unbound, type_error, representation_error, unknown}
 use Rattle.tp_meaning.specs.declared.goals.GoalKind.{GoalKind}
 use Rattle.tp_meaning.specs.Goals.{goal_kind}
 use Rattle.tp_meaning.specs.Turn.{Turn}
 use Rattle.tp_meaning.specs.Clauses.{Base, Clause, predicate}
-use Rattle.tp_meaning.specs.Step.{goal_by, goal_step}
+use Rattle.tp_meaning.specs.Step.{goal_step}
+use Rattle.tp_meaning.specs.Checks.{Checked}
 use Rattle.tp_store.specs.Contents.{Contents, seen, args_seen}
 use Rattle.tp_control.specs.declared.frames.Item.{Item}
 use Rattle.tp_control.specs.declared.frames.Item.TheVariants.{Goal}
@@ -21,14 +21,15 @@ use Rattle.tp_machine.specs.declared.task.Call.{Call}
 use Rattle.tp_machine.specs.declared.task.Met.{Met}
 use Rattle.tp_machine.specs.declared.task.Met.TheVariants as met
 use Rattle.tp_machine.specs.declared.errors.Cause.{Cause}
-use Rattle.tp_machine.specs.declared.errors.Cause.TheVariants as cause
 use Rattle.tp_procs.specs.Processes.{is_marked}
 use Rattle.tp_state.specs.Acts.{is_late}
 use Rattle.tp_control.specs.Lists.{items_at}
 use Rattle.tp_state.specs.State.{plain_of}
+use Rattle.tp_state.specs.Plain.{item_of}
 use Rattle.tp_state.specs.Stands.{ItemStands}
+use Rattle.tp_machine.specs.Causes.{CauseStands, HasCulprit, kind_seen}
 use Rattle.tp_machine.specs.Heads.{hits}
-use Rattle.tp_machine.specs.Machine.{IsMachine, IsStanding, base_in, items_in}
+use Rattle.tp_machine.specs.Machine.{IsMachine, IsStanding, base_in, items_in, world_in}
 
 -- ---- where no process runs
 
@@ -109,32 +110,29 @@ pub record Hits (m : Machine) (t : Task) (c : Call) (place : ℕ) : Type 0 where
   pub here : drop place (clauses_of m c) ≡ clause ∷ more
   pub hit : hits m.atoms m.state.store t.goal.at clause ≡ true
 
--- the goal has no clauses, or is one of the language's own that isn't there yet
-pub record IsUnknown (m : Machine) (t : Task) (name : ℕ) (count : ℕ) : Type 0 where
-  pub named : name < length m.atoms
-  pub args : Terms
-  pub is : seen m.atoms m.state.store t.goal.at ≡ term_of (name_at m.atoms name) args
-  pub number : count_of args ≡ count
-  pub unknown : (w : Turn) (b : ℕ) →
-      goal_by (base_in m) w b (name_at m.atoms name) args
-      (goal_kind (name_at m.atoms name) (count_of args))
-      ≡ Err (unknown (name_at m.atoms name) (count_of args))
+-- the running process at its goal
+abbrev pub its_turn : Machine → Task → Turn
+its_turn m t = record {
+  world = world_in m;
+  process = t.process;
+  rest = map (item_of m.atoms m.state.store) (items_at m.state.frames t.rest);
+}
 
--- the goal raises an error of this kind, wherever it is met
+-- the goal raises an error of this kind
 abbrev pub GivesError : Machine → Task → Term → Type 0
-GivesError m t kind = (w : Turn) (b : ℕ) →
-    goal_step (base_in m) w b (seen m.atoms m.state.store t.goal.at) ≡ Err kind
+GivesError m t kind =
+    goal_step (base_in m) (its_turn m t) t.barrier (seen m.atoms m.state.store t.goal.at) ≡ Err kind
 
--- Why a goal raises an error. It may be unbound itself, or want an argument that is bound.
-abbrev pub IsCause : Machine → Task → Cause → Type 0
-IsCause m t cause.Unbound = GivesError m t unbound
-IsCause m t (cause.Number value) = seen m.atoms m.state.store t.goal.at ≡ Int value
-IsCause m t (cause.Unknown name count) = IsUnknown m t name.at count
-IsCause m t (cause.NotCallable goal) = (goal.at < length m.state.store.cells) ×
-    GivesError m t (type_error "callable" (seen m.atoms m.state.store goal.at))
-IsCause m t (cause.NotInteger term) = (term.at < length m.state.store.cells) ×
-    GivesError m t (type_error "integer" (seen m.atoms m.state.store term.at))
-IsCause m t cause.TooManyArguments = GivesError m t (representation_error "max_arity")
+-- Why a goal raises an error. What the cause speaks of is there.
+pub record IsCause (m : Machine) (t : Task) (why : Cause) : Type 0 where
+  pub culprit : HasCulprit m.state.store.cells why
+  pub stands : CauseStands m.atoms why
+  pub gives : GivesError m t (kind_seen m.atoms m.state.store why)
+
+-- checks end with the error of a cause, and what that speaks of is there
+abbrev pub Fails : {A : Type 0} → Machine → Checked A → Cause → Type 0
+Fails m checks why = HasCulprit m.state.store.cells why × CauseStands m.atoms why ×
+    (checks ≡ Err (kind_seen m.atoms m.state.store why))
 
 -- the running process stands at this goal
 pub record HasCurrent (m : Machine) (t : Task) (c : Call) : Type 0 where

@@ -294,7 +294,7 @@ impl<'a> Machine<'a> {
 
     // ---- second worlds
 
-    /// On with the second world of a control goal.
+    /// On with the second world of a control goal or of `wait`.
     pub(crate) fn choose_second(&mut self, task: Task, call: Call) -> Result<(), NoMemory>
         requires back { Returns self.old Alt.Second }
         requires at { HasCurrent self.old task call }
@@ -307,7 +307,7 @@ impl<'a> Machine<'a> {
         }
     }
 
-    /// The goal is one of the control goals.
+    /// The goal is one of the control goals, or `wait`.
     fn choose_by(&mut self, task: Task, call: Call, kind: GoalKind) -> Result<(), NoMemory>
         requires back { Returns self.old Alt.Second }
         requires chooses { ChoosesBy self.old task call kind }
@@ -316,6 +316,7 @@ impl<'a> Machine<'a> {
     {
         match kind {
             GoalKind::Control(goal) => self.second_of(task, call, goal),
+            GoalKind::Process(_) => self.park(task, call),
             _ => unreachable!(),
         }
     }

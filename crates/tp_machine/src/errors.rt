@@ -1,20 +1,33 @@
 //! Error terms.
 
 ghost use Rattle.std.specs.Prelude.{◌≡◌, ◌<◌, ◌+◌, ℤ, pos, List, length, IfOk};
-ghost use Rattle.tp_terms.specs.Term.{Name, Int};
+ghost use Rattle.tp_terms.specs.Term.{Name, Int, atom};
 ghost use Rattle.tp_terms.specs.Names.{IsTable};
 ghost use Rattle.tp_terms.specs.Shown.{AreNamed, IsNamed, StandsBefore, name_at, shows, shown_from};
 ghost use Rattle.tp_store.specs.Contents.{IsNumbered};
-ghost use Rattle.tp_meaning.specs.Checks.{unbound, type_error, representation_error, existence_error, indicator, error};
+ghost use Rattle.tp_meaning.specs.Checks.{unbound, type_error, domain_error, evaluation_error, representation_error, existence_error, permission_error, indicator, error};
 ghost use Rattle.tp_machine.specs.Built.{Built};
-ghost use Rattle.tp_machine.specs.Causes.{CauseStands, HasCulprit, kind_term, wrong_type};
+ghost use Rattle.tp_machine.specs.Causes.{CauseStands, HasCulprit, domain_word, kind_term, kind_of_word, kind_with, wrong_domain};
 
 use tp_store::Store;
 use tp_terms::symbols::{
-    CALLABLE, ERROR, EXISTENCE_ERROR, INSTANTIATION_ERROR, INTEGER, MAX_ARITY, PROCEDURE,
-    REPRESENTATION_ERROR, SLASH, TYPE_ERROR,
+    ATOM, CALLABLE, CREATE, DOMAIN_ERROR, EMPTY_LIST, END_TIME, ERROR, EVALUATION_ERROR,
+    EXISTENCE_ERROR, INSTANTIATION_ERROR, INT_OVERFLOW, INTEGER, LIST, MAX_ARITY,
+    NOT_LESS_THAN_ZERO, PERMISSION_ERROR, PROCEDURE, PROCESS, PROCESS_NAME, REPRESENTATION_ERROR,
+    SLASH, START_TIME, TYPE_ERROR,
 };
 use tp_terms::{AtomId, Cell, NoMemory, Ref};
+
+/// What a time may be.
+#[derive(Clone, Copy, Debug)]
+pub enum Domain {
+    /// A process holds for no less than 0.
+    Duration,
+    /// A process starts no sooner than now.
+    StartTime,
+    /// A process ends no sooner than it starts.
+    EndTime,
+}
 
 /// Why an error is raised.
 #[derive(Clone, Copy, Debug)]
@@ -31,6 +44,22 @@ pub enum Cause {
     NotInteger(Ref),
     /// A compound would have more than 255 arguments.
     TooManyArguments,
+    /// The term of a place is no atom, where the name of a process is wanted.
+    NotAtom(Ref),
+    /// The term of a place is no list, where the names of processes are wanted.
+    NotList(Ref),
+    /// No process has the name that stands at a place.
+    NoProcess(Ref),
+    /// The name of a process would be `[]`.
+    EmptyName,
+    /// The term of a place is the name of a process already.
+    NameTaken(Ref),
+    /// A time isn't what it may be.
+    OutOfDomain(Domain, i64),
+    /// A time would be past 64 bits.
+    Overflow,
+    /// A place shows the kind of the error.
+    Kind(Ref),
 }
 
 /// A compound of the two arguments that were placed from `first` on.
@@ -52,6 +81,17 @@ fn single(name: AtomId, first: Ref) -> Cell
         name,
         first,
         count: 1,
+    }
+}
+
+/// A compound of the three arguments that were placed from `first` on.
+fn triple(name: AtomId, first: Ref) -> Cell
+    ensures { result ≡ Cell.Comp name first 3 }
+{
+    Cell::Comp {
+        name,
+        first,
+        count: 3,
     }
 }
 
@@ -96,19 +136,39 @@ fn unbound_kind(store: &mut Store) -> Result<Ref, NoMemory>
     Ok(kind)
 }
 
-/// The kind of the error that is raised where this cell's term isn't of a type.
-fn type_kind(store: &mut Store, of: AtomId, culprit: Cell) -> Result<Ref, NoMemory>
+/// A kind of error with what is wanted and the term of a cell that isn't so.
+fn culprit_kind(
+    store: &mut Store,
+    error: AtomId,
+    wanted: AtomId,
+    culprit: Cell,
+) -> Result<Ref, NoMemory>
     requires before { StandsBefore (length store.old.cells) culprit }
     requires numbered { IsNumbered store.old.vars culprit }
     ensures last { IfOk result (λ kind. kind.at + 1 ≡ length store.new.cells) }
     ensures built { IfOk result (λ kind. (names : List Name) → IsTable names →
         AreNamed (length names) store.old.cells → IsNamed (length names) culprit →
-        of.at < length names → Built names store.old store.new kind.at
-        (wrong_type (name_at names of.at) (shown_from names store.old.cells culprit))) }
+        error.at < length names → wanted.at < length names →
+        Built names store.old store.new kind.at
+        (kind_with (name_at names error.at) (name_at names wanted.at)
+        (shown_from names store.old.cells culprit))) }
 {
-    let what = store.place(Cell::Atom(of))?;
+    let what = store.place(Cell::Atom(wanted))?;
     store.place(culprit)?;
-    let kind = store.place(pair(TYPE_ERROR, what))?;
+    let kind = store.place(pair(error, what))?;
+    Ok(kind)
+}
+
+/// A kind of error with a word.
+fn word_kind(store: &mut Store, error: AtomId, word: AtomId) -> Result<Ref, NoMemory>
+    ensures last { IfOk result (λ kind. kind.at + 1 ≡ length store.new.cells) }
+    ensures built { IfOk result (λ kind. (names : List Name) → IsTable names →
+        AreNamed (length names) store.old.cells → error.at < length names →
+        word.at < length names → Built names store.old store.new kind.at
+        (kind_of_word (name_at names error.at) (name_at names word.at))) }
+{
+    let what = store.place(Cell::Atom(word))?;
+    let kind = store.place(single(error, what))?;
     Ok(kind)
 }
 
@@ -119,21 +179,22 @@ fn number_kind(store: &mut Store, value: i64) -> Result<Ref, NoMemory>
         AreNamed (length names) store.old.cells →
         Built names store.old store.new kind.at (type_error "callable" (Int value))) }
 {
-    let kind = type_kind(store, CALLABLE, integer(value))?;
+    let kind = culprit_kind(store, TYPE_ERROR, CALLABLE, integer(value))?;
     Ok(kind)
 }
 
-/// The kind of the error that the term of a place raises where it isn't of a type.
-fn term_kind(store: &mut Store, of: AtomId, term: Ref) -> Result<Ref, NoMemory>
+/// The kind of error with what is wanted and the term of a place that isn't so.
+fn term_kind(store: &mut Store, error: AtomId, wanted: AtomId, term: Ref) -> Result<Ref, NoMemory>
     requires { term.at < length store.old.cells }
     ensures last { IfOk result (λ kind. kind.at + 1 ≡ length store.new.cells) }
     ensures built { IfOk result (λ kind. (names : List Name) → IsTable names →
-        AreNamed (length names) store.old.cells → of.at < length names →
-        Built names store.old store.new kind.at
-        (wrong_type (name_at names of.at) (shows names store.old.cells term.at))) }
+        AreNamed (length names) store.old.cells → error.at < length names →
+        wanted.at < length names → Built names store.old store.new kind.at
+        (kind_with (name_at names error.at) (name_at names wanted.at)
+        (shows names store.old.cells term.at))) }
 {
     let culprit = store.cells().get(term);
-    let kind = type_kind(store, of, culprit)?;
+    let kind = culprit_kind(store, error, wanted, culprit)?;
     Ok(kind)
 }
 
@@ -144,9 +205,84 @@ fn arity_kind(store: &mut Store) -> Result<Ref, NoMemory>
         AreNamed (length names) store.old.cells →
         Built names store.old store.new kind.at (representation_error "max_arity")) }
 {
-    let what = store.place(Cell::Atom(MAX_ARITY))?;
-    let kind = store.place(single(REPRESENTATION_ERROR, what))?;
+    let kind = word_kind(store, REPRESENTATION_ERROR, MAX_ARITY)?;
     Ok(kind)
+}
+
+/// The kind of the error that a time past 64 bits raises.
+fn overflow_kind(store: &mut Store) -> Result<Ref, NoMemory>
+    ensures last { IfOk result (λ kind. kind.at + 1 ≡ length store.new.cells) }
+    ensures built { IfOk result (λ kind. (names : List Name) → IsTable names →
+        AreNamed (length names) store.old.cells →
+        Built names store.old store.new kind.at (evaluation_error "int_overflow")) }
+{
+    let kind = word_kind(store, EVALUATION_ERROR, INT_OVERFLOW)?;
+    Ok(kind)
+}
+
+/// The kind of the error that `[]` as the name of a process raises.
+fn empty_kind(store: &mut Store) -> Result<Ref, NoMemory>
+    ensures last { IfOk result (λ kind. kind.at + 1 ≡ length store.new.cells) }
+    ensures built { IfOk result (λ kind. (names : List Name) → IsTable names →
+        AreNamed (length names) store.old.cells →
+        Built names store.old store.new kind.at (domain_error "process_name" (atom "[]"))) }
+{
+    let kind = culprit_kind(store, DOMAIN_ERROR, PROCESS_NAME, Cell::Atom(EMPTY_LIST))?;
+    Ok(kind)
+}
+
+/// The name of a domain.
+fn domain_name(domain: Domain) -> AtomId
+    ensures within { (names : List Name) → IsTable names → result.at < length names }
+    ensures name { (names : List Name) → IsTable names →
+        name_at names result.at ≡ domain_word domain }
+{
+    match domain {
+        Domain::Duration => NOT_LESS_THAN_ZERO,
+        Domain::StartTime => START_TIME,
+        Domain::EndTime => END_TIME,
+    }
+}
+
+/// The kind of the error that a time raises where it isn't what it may be.
+fn domain_kind(store: &mut Store, domain: Domain, value: i64) -> Result<Ref, NoMemory>
+    ensures last { IfOk result (λ kind. kind.at + 1 ≡ length store.new.cells) }
+    ensures built { IfOk result (λ kind. (names : List Name) → IsTable names →
+        AreNamed (length names) store.old.cells →
+        Built names store.old store.new kind.at (wrong_domain (domain_word domain) (Int value))) }
+{
+    let kind = culprit_kind(store, DOMAIN_ERROR, domain_name(domain), integer(value))?;
+    Ok(kind)
+}
+
+/// The kind of the error that the term of a place raises where it is the name of a process already.
+fn taken_kind(store: &mut Store, name: Ref) -> Result<Ref, NoMemory>
+    requires { name.at < length store.old.cells }
+    ensures last { IfOk result (λ kind. kind.at + 1 ≡ length store.new.cells) }
+    ensures built { IfOk result (λ kind. (names : List Name) → IsTable names →
+        AreNamed (length names) store.old.cells →
+        Built names store.old store.new kind.at
+        (permission_error "create" "process" (shows names store.old.cells name.at))) }
+{
+    let culprit = store.cells().get(name);
+    let act = store.place(Cell::Atom(CREATE))?;
+    store.place(Cell::Atom(PROCESS))?;
+    store.place(culprit)?;
+    let kind = store.place(triple(PERMISSION_ERROR, act))?;
+    Ok(kind)
+}
+
+/// The kind of error that a place shows, at the last place.
+fn placed_again(store: &mut Store, kind: Ref) -> Result<Ref, NoMemory>
+    requires { kind.at < length store.old.cells }
+    ensures last { IfOk result (λ last. last.at + 1 ≡ length store.new.cells) }
+    ensures built { IfOk result (λ last. (names : List Name) → IsTable names →
+        AreNamed (length names) store.old.cells →
+        Built names store.old store.new last.at (shows names store.old.cells kind.at)) }
+{
+    let cell = store.cells().get(kind);
+    let last = store.place(cell)?;
+    Ok(last)
 }
 
 /// An error of a kind whose place is the last, with the name of a process.
@@ -174,9 +310,17 @@ fn kind_of(store: &mut Store, cause: Cause) -> Result<Ref, NoMemory>
         Cause::Unbound => unbound_kind(store),
         Cause::Number(value) => number_kind(store, value),
         Cause::Unknown(name, count) => unknown_kind(store, name, count),
-        Cause::NotCallable(goal) => term_kind(store, CALLABLE, goal),
-        Cause::NotInteger(term) => term_kind(store, INTEGER, term),
+        Cause::NotCallable(goal) => term_kind(store, TYPE_ERROR, CALLABLE, goal),
+        Cause::NotInteger(term) => term_kind(store, TYPE_ERROR, INTEGER, term),
         Cause::TooManyArguments => arity_kind(store),
+        Cause::NotAtom(term) => term_kind(store, TYPE_ERROR, ATOM, term),
+        Cause::NotList(term) => term_kind(store, TYPE_ERROR, LIST, term),
+        Cause::NoProcess(name) => term_kind(store, EXISTENCE_ERROR, PROCESS, name),
+        Cause::EmptyName => empty_kind(store),
+        Cause::NameTaken(name) => taken_kind(store, name),
+        Cause::OutOfDomain(domain, value) => domain_kind(store, domain, value),
+        Cause::Overflow => overflow_kind(store),
+        Cause::Kind(kind) => placed_again(store, kind),
     }
 }
 
@@ -202,8 +346,7 @@ pub fn raised_kind(store: &mut Store, kind: Ref, process: AtomId) -> Result<Ref,
         Built names store.old store.new place.at
         (error (shows names store.old.cells kind.at) (name_at names process.at))) }
 {
-    let cell = store.cells().get(kind);
-    let last = store.place(cell)?;
+    let last = placed_again(store, kind)?;
     let place = error(store, last, process)?;
     Ok(place)
 }

@@ -66,7 +66,7 @@ impl<'a> Machine<'a> {
         }
     }
 
-    /// A goal that the language has of its own. Process goals aren't there yet.
+    /// A goal that the language has of its own.
     fn take(&mut self, task: Task, call: Call, kind: GoalKind) -> Result<Stepped, NoMemory>
         requires machine { IsMachine self.old }
         requires call { Calls self.old task call (Some kind) }
@@ -76,7 +76,7 @@ impl<'a> Machine<'a> {
         match kind {
             GoalKind::Control(goal) => self.control(task, call, goal),
             GoalKind::BuiltIn(id) => self.built_in(task, call, id),
-            GoalKind::Process(_) => self.raise(task, Cause::Unknown(call.name, call.count)),
+            GoalKind::Process(goal) => self.perform(task, call, goal),
         }
     }
 

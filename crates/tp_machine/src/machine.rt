@@ -132,7 +132,7 @@ impl<'a> Machine<'a> {
         match next {
             Alt::Clause(place) => self.resume_clauses(place),
             Alt::Second => self.resume_second(),
-            Alt::Message(_) => unreachable!(),
+            Alt::Message(place) => self.resume_messages(place),
         }
     }
 }

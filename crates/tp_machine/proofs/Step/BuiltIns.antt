@@ -21,7 +21,7 @@ use Rattle.tp_meaning.specs.Answers.{Answer, Yes, No}
 use Rattle.tp_meaning.specs.Builtin.{of_args}
 use Rattle.tp_meaning.specs.Trail.{bindings_logged}
 use Rattle.tp_meaning.specs.World as world
-use Rattle.tp_meaning.specs.World.{World, with_items, stamped, world_under}
+use Rattle.tp_meaning.specs.World.{world_under}
 use Rattle.tp_meaning.specs.Turn.{going, one, raised_at}
 use Rattle.tp_meaning.specs.Step.{answered, step, searched}
 use Rattle.tp_meaning.specs.Machine as machine

@@ -17,7 +17,7 @@ use Rattle.tp_meaning.specs.Search.{Dead, Branch}
 use Rattle.tp_meaning.specs.Turn.{Turn, Gives, some, raised_at}
 use Rattle.tp_meaning.specs.Clauses as clauses
 use Rattle.tp_meaning.specs.Clauses.{Base, Clause, predicate, renamed, head_of, by_clause, try_clause, worlds_of}
-use Rattle.tp_meaning.specs.Step.{step, goal_by}
+use Rattle.tp_meaning.specs.Step.{step, goal_by, goal_step}
 use Rattle.tp_meaning.specs.Machine as machine
 use Rattle.tp_meaning.specs.Machine.{with_choice}
 use Rattle.tp_meaning.proofs.Applied.{apply-twice, mgu-solves, solves-over}
@@ -46,11 +46,13 @@ use Rattle.tp_machine.specs.Heads.{unifier, hits, EntersClause}
 use Rattle.tp_machine.specs.Untried.{untried_by, untried_goal, untried_named}
 use Rattle.tp_machine.specs.Machine.{IsMachine, Steps, base_in, world_in, choices_in}
 use Rattle.tp_machine.proofs.Step.Newest.{newest_below}
-use Rattle.tp_machine.specs.Meets.{Calls, Hits, IsUnknown, clauses_of, found_from}
+use Rattle.tp_machine.specs.Meets.{Calls, Hits, IsCause, clauses_of, found_from, its_turn}
 use Rattle.tp_machine.specs.Goes.{MayKeep, IsKept, Enters, untried_in}
 use Rattle.tp_machine.proofs.Worlds.Items.{OtherItems, other-stands, other-world, other-rest, other-push, pushed-items, list_stands}
 use Rattle.tp_machine.proofs.Worlds.Stores.{OtherStore, store-stands, under-world, items-by}
 use Rattle.tp_machine.proofs.Step.First.{process_there, items-there, call-gives, rest_in, turn_in}
+use Rattle.tp_machine.specs.declared.errors.Cause.TheVariants as cause
+use Rattle.tp_machine.proofs.Step.Refuse.{by_kind}
 use Rattle.tp_machine.proofs.Step.Parts.{to_none}
 
 -- ---- searching the clauses of a goal
@@ -101,7 +103,8 @@ drop-nil : {A : Type 0} (k : ℕ) → ◌≡◌ {A = List A} (drop k []) []
 drop-nil zero = refl
 drop-nil (suc k) = refl
 
-drop-drop : {A : Type 0} (n m : ℕ) (xs : List A) → drop m (drop n xs) ≡ drop (n + m) xs
+-- what is behind a place that is behind another
+pub drop-drop : {A : Type 0} (n m : ℕ) (xs : List A) → drop m (drop n xs) ≡ drop (n + m) xs
 drop-drop n m [] = ap (drop m) (drop-nil n) ∙ drop-nil m ∙ sym (drop-nil (n + m))
 drop-drop zero m (x ∷ xs) = ap (λ k. drop k (x ∷ xs)) (let z : m ≡ 0 + m = omega arith in z)
 drop-drop (suc n) m (x ∷ xs) = drop-drop n m xs ∙ ap (λ k. drop k (x ∷ xs)) (let z : suc (n + m) ≡ suc n + m = omega arith in z)
@@ -250,14 +253,16 @@ module _ (m : Machine) (t : Task) (c : Call) (h : Calls m t c None) where
   by q = elim q [ [] ↦ Err (unknown f (count_of args)) | d ∷ ds ↦ Ok (some (worlds_of turn (term_of f args) (d ∷ ds))) ]
 
   -- there is no clause
-  pub is_unknown : clauses_of m c ≡ [] → IsUnknown m t c.name.at c.count
+  pub is_unknown : clauses_of m c ≡ [] → IsCause m t (cause.Unknown c.name c.count)
   unfolding by
   is_unknown e = record {
-    named = h.call.name;
-    args = args;
-    is = h.call.is;
-    number = number;
-    unknown = λ w b. ap (goal_by (base_in m) w b f args) kind ∙ ap (λ q. elim q as (λ _. Checked Gives) [ [] ↦ Err (unknown f (count_of args)) | d ∷ ds ↦ Ok (some (worlds_of w (term_of f args) (d ∷ ds))) ]) (clauses-seen ∙ e);
+    culprit = tt;
+    stands = h.call.name;
+    gives = ap (goal_step (base_in m) (its_turn m t) t.barrier) h.call.is
+        ∙ by_kind (base_in m) (its_turn m t) t.barrier f args
+        ∙ ap (goal_by (base_in m) (its_turn m t) t.barrier f args) kind
+        ∙ ap (λ q. elim q as (λ _. Checked Gives) [ [] ↦ Err (unknown f (count_of args)) | d ∷ ds ↦ Ok (some (worlds_of (its_turn m t) (term_of f args) (d ∷ ds))) ]) (clauses-seen ∙ e)
+        ∙ ap (λ n. Err (unknown f n)) number;
   }
 
   -- there are some

@@ -1,30 +1,23 @@
 -- Steps of control goals.
-use Rattle.std.proofs.Common.{◌≡◌, ℕ, zero, suc, ◌+◌, ◌<◌, ◌≤◌, List, [], ◌∷◌, map, take, length, Some, Err, refl, ap, sym, subst, ◌∙◌, arith}
+use Rattle.std.proofs.Common.{◌≡◌, ℕ, zero, suc, ◌+◌, ◌<◌, ◌≤◌, List, [], ◌∷◌, map, take, length, Some, refl, ap, sym, subst, ◌∙◌, arith}
 use Rattle.tp_terms.specs.declared.cells.Ref.{Ref}
-use Rattle.tp_terms.specs.Term.{Name, Terms, count_of}
+use Rattle.tp_terms.specs.Term.{Name}
 use Rattle.tp_terms.specs.Shown.{name_at}
 use Rattle.tp_terms.proofs.NameLemmas.{Grows-same}
 use Rattle.tp_meaning.specs.Control.{arg, if_then}
-use Rattle.tp_meaning.specs.declared.goals.GoalKind.{GoalKind}
 use Rattle.tp_meaning.specs.declared.goals.GoalKind.TheVariants.{Control}
-use Rattle.tp_meaning.specs.declared.goals.GoalKind.TheVariants as kind
-use Rattle.tp_meaning.specs.declared.goals.ProcessGoal.{ProcessGoal}
-use Rattle.tp_meaning.specs.Goals.{goal_kind}
-use Rattle.tp_meaning.specs.Checks.{unknown}
 use Rattle.tp_meaning.specs.declared.goals.ControlGoal.TheVariants as control
 use Rattle.tp_meaning.specs.World as world
 use Rattle.tp_meaning.specs.World.{with_items, stamped}
-use Rattle.tp_meaning.specs.Turn.{Turn, going, one}
+use Rattle.tp_meaning.specs.Turn.{going, one}
 use Rattle.tp_meaning.specs.Search as search
 use Rattle.tp_meaning.specs.Search.{Dead}
 use Rattle.tp_meaning.specs.declared.DeadCause.TheVariants.{Failed}
-use Rattle.tp_meaning.specs.Step.{goal_by}
 use Rattle.tp_meaning.specs.Machine as machine
 use Rattle.tp_meaning.specs.Machine.{cut_from}
 use Rattle.tp_control.specs.declared.choices.Choice.{Choice}
 use Rattle.tp_meaning.proofs.OwnGoals.Counts.{fewest-fits}
 use Rattle.tp_store.specs.Contents.{Contents, seen, args_seen}
-use Rattle.tp_store.proofs.StoreLemmas.{count-seen}
 use Rattle.tp_control.specs.declared.frames.Item.{Item}
 use Rattle.tp_control.specs.declared.frames.Item.TheVariants.{Goal}
 use Rattle.tp_machine.specs.declared.machine.Machine.{Machine}
@@ -39,7 +32,7 @@ use Rattle.tp_state.specs.Plain.{Plain, item_of, world_of}
 use Rattle.tp_state.specs.Acts.{pushed, resting}
 use Rattle.tp_machine.specs.Conditions.{conditional, pushes}
 use Rattle.tp_machine.specs.Machine.{IsMachine, Steps, base_in, choices_in, choices_of, world_in}
-use Rattle.tp_machine.specs.Meets.{Calls, IsCall, IsUnknown}
+use Rattle.tp_machine.specs.Meets.{Calls, IsCall}
 use Rattle.tp_machine.specs.Goes.{Goes}
 use Rattle.tp_machine.proofs.Worlds.Items.{OtherItems, other-stands, other-world, other-rest, other-push, pushed-items}
 use Rattle.tp_machine.proofs.Step.First.{call-gives, rest_in, turn_in}
@@ -153,21 +146,3 @@ module _ (m : Machine) (t : Task) (c : Call) (is : IsMachine m) where
       ∙ ap (λ x. one (going turn (if_then turn t.barrier x (arg 1 (args_seen m.atoms m.state.store c.first.at c.count))))) (first-arg least h.call)
       ∙ ap (λ x. one (going turn (if_then turn t.barrier (seen m.atoms m.state.store c.first.at) x))) (second-arg least h.call second es)
       ∙ ap one (sym a.world))
-
--- a goal of the language that isn't there yet is unknown
-pub is_unknown : (m : Machine) (t : Task) (c : Call) (k : GoalKind) → Calls m t c (Some k) → ((w : Turn) (b : ℕ) (f : Name) (ts : Terms) → goal_by (base_in m) w b f ts (Some k) ≡ Err (unknown f (count_of ts))) → IsUnknown m t c.name.at c.count
-is_unknown m t c k h e =
-    let number = count-seen m.atoms m.state.store c.first.at c.count in
-    let f = name_at m.atoms c.name.at in
-    let args = args_seen m.atoms m.state.store c.first.at c.count in
-    record {
-      named = h.call.name;
-      args = args;
-      is = h.call.is;
-      number = number;
-      unknown = λ w b. ap (goal_by (base_in m) w b f args) (ap (goal_kind f) number ∙ h.kind) ∙ e w b f args;
-    }
-
--- so is a goal of processes
-pub not_there : (m : Machine) (t : Task) (c : Call) (g : ProcessGoal) → Calls m t c (Some (kind.Process g)) → IsUnknown m t c.name.at c.count
-not_there m t c g h = is_unknown m t c (kind.Process g) h (λ w b f ts. refl)

@@ -156,14 +156,12 @@ module _ (m : Machine) (t : Task) (c : Call) (h : Calls m t c (Some (Control con
   -- where a place shows no integer
   place_refused : (at : Ref) (why : Cause) → at.at < length m.state.store.cells → ((e : Term) → integer_given (seen m.atoms m.state.store at.at) ≡ Err e → (w : Turn) (b : ℕ) → meaning.control w b control.Between (name_at m.atoms c.name.at) (args_seen m.atoms m.state.store c.first.at c.count) ≡ Err e)
       → IsGiven m.atoms m.state.store at (Err why) → Unbounded m t c why
-  place_refused at cause.Unbound lt by g = refuses cause.Unbound unbound (gives_error m t c (Control control.Between) unbound h (by unbound g)) (by unbound g)
+  place_refused at cause.Unbound lt by g = refuses cause.Unbound unbound (record { culprit = tt; stands = tt; gives = gives_error m t c (Control control.Between) unbound h (by unbound g) }) (by unbound g)
   place_refused at (cause.NotInteger term) lt by g =
       let e = type_error "integer" (seen m.atoms m.state.store at.at) in
-      subst (λ (p : Ref). Unbounded m t c (cause.NotInteger p)) (sym g.0) (refuses (cause.NotInteger at) e (lt, gives_error m t c (Control control.Between) e h (by e g.1)) (by e g.1))
-  place_refused at (cause.Number value) lt by g = absurd g
-  place_refused at (cause.Unknown name count) lt by g = absurd g
-  place_refused at (cause.NotCallable goal) lt by g = absurd g
-  place_refused at cause.TooManyArguments lt by g = absurd g
+      subst (λ (p : Ref). Unbounded m t c (cause.NotInteger p)) (sym g.0)
+      (refuses (cause.NotInteger at) e (record { culprit = lt; stands = tt; gives = gives_error m t c (Control control.Between) e h (by e g.1) }) (by e g.1))
+  place_refused at _ lt by g = absurd g
 
   -- its first argument
   pub low_refused : (why : Cause) → IsGiven m.atoms m.state.store c.first (Err why) → Unbounded m t c why
@@ -196,15 +194,16 @@ module _ (m : Machine) (t : Task) (c : Call) (b : Bounds) (h : Bounded m t c b) 
 
   -- its third argument is no number and no variable
   pub third_refused : (place : Ref) (g : Call) → place.at ≡ c.first.at + 2 → IsCall m.atoms m.state.store place g → IsCause m t (cause.NotInteger place)
-  third_refused place g e is = (
-    subst (λ k. k < length m.state.store.cells) (sym e) (arguments_there m t c h.calls 2 (omega arith)),
-    gives_error m t c (Control control.Between) _ h.calls (λ w k.
+  third_refused place g e is = record {
+    culprit = subst (λ k. k < length m.state.store.cells) (sym e) (arguments_there m t c h.calls 2 (omega arith));
+    stands = tt;
+    gives = gives_error m t c (Control control.Between) _ h.calls (λ w k.
         counted_is w k
         ∙ ap (λ n. counted w k its_name b.low b.high (seen m.atoms m.state.store n)) (sym e)
         ∙ ap (counted w k its_name b.low b.high) is.is
         ∙ not_counted w k its_name b.low b.high (name_at m.atoms g.name.at) (args_seen m.atoms m.state.store g.first.at g.count)
-        ∙ ap (λ x. Err (type_error "integer" x)) (sym is.is)),
-  )
+        ∙ ap (λ x. Err (type_error "integer" x)) (sym is.is));
+  }
 
   abbrev tested : Bool → Gives
   tested x = if x then one (going (turn_in m t.process t.rest) (rest_in m t.rest)) else Dead Failed

@@ -1,19 +1,18 @@
 -- Steps that raise an error.
-use Rattle.std.proofs.Common.{◌≡◌, ℕ, ◌<◌, ◌≤◌, List, [], map, length, Some, None, slice_get, refl, ap, sym, subst, ◌∙◌, arith, length-append}
+use Rattle.std.proofs.Common.{◌≡◌, ℕ, ◌<◌, ◌≤◌, List, [], map, length, Some, None, slice_get, ℤ, refl, ap, sym, subst, ◌∙◌, arith, length-append}
 use Rattle.std.proofs.lemmas.Option.{slice_get-map}
 use Rattle.std.specs.Option.{option_map}
 use Rattle.tp_terms.specs.declared.cells.Ref.{Ref}
 use Rattle.tp_terms.specs.declared.cells.AtomId.{AtomId}
 use Rattle.tp_terms.specs.declared.world.Proc.{Proc}
-use Rattle.tp_terms.specs.Term.{Name, Var, count_of}
+use Rattle.tp_terms.specs.Term.{Name, Var, Int}
 use Rattle.tp_terms.specs.Names.{IsTable}
 use Rattle.tp_terms.specs.Shown.{name_at, shows, AreNamed}
 use Rattle.tp_meaning.specs.Subst.{apply}
-use Rattle.tp_meaning.specs.Checks.{error, unknown}
+use Rattle.tp_meaning.specs.Checks.{error}
 use Rattle.tp_meaning.specs.World as world
 use Rattle.tp_meaning.specs.Turn.{raised_at}
 use Rattle.tp_meaning.specs.Search as search
-use Rattle.tp_meaning.specs.Goals.{goal_kind}
 use Rattle.tp_meaning.specs.Step.{step, goal_step}
 use Rattle.tp_meaning.proofs.Places.{get-at_place}
 use Rattle.tp_store.specs.Contents.{subst_of, seen}
@@ -31,12 +30,12 @@ use Rattle.tp_state.proofs.GoingBack.Bindings.{store-follows}
 use Rattle.tp_state.specs.Plain.{Plain, items_of, process_of, with_running, world_of}
 use Rattle.tp_state.specs.Stands.{PlainStands}
 use Rattle.tp_machine.specs.Built.{Built}
-use Rattle.tp_machine.specs.Causes.{kind_term, kind_seen, CauseStands, HasCulprit}
+use Rattle.tp_machine.specs.Causes.{kind_term, kind_seen, CauseStands}
 use Rattle.tp_machine.specs.Machine.{IsMachine, Steps, base_in, world_in}
-use Rattle.tp_machine.specs.Meets.{Meets, IsCause}
+use Rattle.tp_machine.specs.Meets.{Meets, IsCause, its_turn}
 use Rattle.tp_machine.proofs.Worlds.Stores.{OtherStore, store-stands, same-world}
 use Rattle.tp_machine.proofs.Worlds.Procs.{all-get}
-use Rattle.tp_machine.proofs.Step.First.{process_there, there, goal-gives, named-gives, turn_in}
+use Rattle.tp_machine.proofs.Step.First.{process_there, there, goal-gives}
 use Rattle.tp_machine.proofs.Step.Parts.{to_raise}
 
 module _ (m : Machine) (t : Task) (is : IsMachine m) (h : Meets m t) where
@@ -55,31 +54,7 @@ module _ (m : Machine) (t : Task) (is : IsMachine m) (h : Meets m t) where
 
   -- a goal that raises
   raises-by : (why : Cause) → IsCause m t why → step (base_in m) (world_in m) ≡ search.Raise (error (kind_seen m.atoms m.state.store why) (world.name_at (world_in m).processes t.process))
-  raises-by cause.Unbound c = goal-gives m t h ∙ ap (raised_at (world_in m) t.process) (c (turn_in m t.process t.rest) t.barrier)
-  raises-by (cause.NotCallable goal) c = goal-gives m t h ∙ ap (raised_at (world_in m) t.process) (c.1 (turn_in m t.process t.rest) t.barrier)
-  raises-by (cause.NotInteger term) c = goal-gives m t h ∙ ap (raised_at (world_in m) t.process) (c.1 (turn_in m t.process t.rest) t.barrier)
-  raises-by cause.TooManyArguments c = goal-gives m t h ∙ ap (raised_at (world_in m) t.process) (c (turn_in m t.process t.rest) t.barrier)
-  raises-by (cause.Number value) c = goal-gives m t h ∙ ap (λ g. raised_at (world_in m) t.process (goal_step (base_in m) (turn_in m t.process t.rest) t.barrier g)) c
-  raises-by (cause.Unknown name count) c =
-      named-gives m t (name_at m.atoms name.at) c.args (goal_kind (name_at m.atoms name.at) (count_of c.args)) h c.is refl
-      ∙ ap (raised_at (world_in m) t.process) (c.unknown (turn_in m t.process t.rest) t.barrier)
-      ∙ ap (λ n. search.Raise (error (unknown (name_at m.atoms name.at) n) (world.name_at (world_in m).processes t.process))) c.number
-
-  pub cause_stands : (why : Cause) → IsCause m t why → CauseStands m.atoms why
-  cause_stands cause.Unbound c = tt
-  cause_stands (cause.Number value) c = tt
-  cause_stands (cause.Unknown name count) c = c.named
-  cause_stands (cause.NotCallable goal) c = tt
-  cause_stands (cause.NotInteger term) c = tt
-  cause_stands cause.TooManyArguments c = tt
-
-  pub has_culprit : (why : Cause) → IsCause m t why → HasCulprit m.state.store.cells why
-  has_culprit cause.Unbound c = tt
-  has_culprit (cause.Number value) c = tt
-  has_culprit (cause.Unknown name count) c = tt
-  has_culprit (cause.NotCallable goal) c = c.0
-  has_culprit (cause.NotInteger term) c = c.0
-  has_culprit cause.TooManyArguments c = tt
+  raises-by why c = goal-gives m t h ∙ ap (raised_at (world_in m) t.process) c.gives
 
   pub raises : (s : State) (place : Ref) (why : Cause) (q : Proc) → IsCause m t why → slice_get m.state.procs t.process ≡ Some q → plain_of s ≡ record (plain_of m.state) { store = s.store } → held_of s ≡ record { plain = with_store s.store (plain_of m.state); log = m.state.log; rooms = (held_of m.state).rooms }
       → Built m.atoms m.state.store s.store place.at (error (kind_term m.atoms m.state.store.cells why) (name_at m.atoms q.name.at)) → Steps m (record m { state = s }) (answer.Raised place)
@@ -118,8 +93,11 @@ module _ (m : Machine) (t : Task) (is : IsMachine m) (h : Meets m t) where
       let e : process ≡ q.0.name = named q.0 q.1 in
       raises s place why q.0 c q.1 same held
       (subst (λ (a : AtomId). Built m.atoms m.state.store s.store place.at (error (kind_term m.atoms m.state.store.cells why) (name_at m.atoms a.at))) e
-      (built m.atoms is.program.table is.stands.atoms (cause_stands why c) (subst (λ (a : AtomId). a.at < length m.atoms) (sym e) (name_stands q.0 q.1))))
+      (built m.atoms is.program.table is.stands.atoms c.stands (subst (λ (a : AtomId). a.at < length m.atoms) (sym e) (name_stands q.0 q.1))))
 
--- a variable as a goal raises an error
+-- a variable and an integer as goals raise an error
 pub unbound_cause : (m : Machine) (t : Task) → (v : ℕ) × (seen m.atoms m.state.store t.goal.at ≡ Var v) → IsCause m t cause.Unbound
-unbound_cause m t h = λ w b. ap (goal_step (base_in m) w b) h.1
+unbound_cause m t h = record { culprit = tt; stands = tt; gives = ap (goal_step (base_in m) (its_turn m t) t.barrier) h.1 }
+
+pub number_cause : (m : Machine) (t : Task) (value : ℤ) → seen m.atoms m.state.store t.goal.at ≡ Int value → IsCause m t (cause.Number value)
+number_cause m t value e = record { culprit = tt; stands = tt; gives = ap (goal_step (base_in m) (its_turn m t) t.barrier) e }

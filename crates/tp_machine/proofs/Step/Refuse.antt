@@ -24,9 +24,10 @@ use Rattle.tp_machine.specs.declared.task.Task.{Task}
 use Rattle.tp_machine.specs.declared.task.Call.{Call}
 use Rattle.tp_machine.specs.Enters.{Enters}
 use Rattle.tp_machine.specs.Machine.{base_in}
-use Rattle.tp_machine.specs.Meets.{Calls, GivesError, IsCause}
+use Rattle.tp_machine.specs.Meets.{Calls, GivesError, IsCause, its_turn}
 
-by_kind : (base : Base) (w : Turn) (b : ℕ) (f : Name) (ts : Terms) → goal_step base w b (term_of f ts) ≡ goal_by base w b f ts (goal_kind f (count_of ts))
+-- a goal with a name, by its kind
+pub by_kind : (base : Base) (w : Turn) (b : ℕ) (f : Name) (ts : Terms) → goal_step base w b (term_of f ts) ≡ goal_by base w b f ts (goal_kind f (count_of ts))
 by_kind base w b f NoMore = refl
 by_kind base w b f (More t ts) = refl
 
@@ -42,25 +43,26 @@ module _ (m : Machine) (t : Task) (c : Call) where
   abbrev its_args : Terms
   its_args = args_seen m.atoms m.state.store c.first.at c.count
 
-  -- a goal of the language whose kind gives an error
+  -- a goal of the language whose kind gives an error here
+  pub gives_here : (k : GoalKind) (e : Term) → Calls m t c (Some k) → goal_by (base_in m) (its_turn m t) t.barrier (name_at m.atoms c.name.at) (args_seen m.atoms m.state.store c.first.at c.count) (Some k) ≡ Err e → GivesError m t e
+  gives_here k e h g =
+      ap (goal_step (base_in m) (its_turn m t) t.barrier) h.call.is
+      ∙ by_kind (base_in m) (its_turn m t) t.barrier its_name its_args
+      ∙ ap (goal_by (base_in m) (its_turn m t) t.barrier its_name its_args) (ap (goal_kind its_name) (count-seen m.atoms m.state.store c.first.at c.count) ∙ h.kind)
+      ∙ g
+
+  -- and one whose kind gives it wherever it stands
   pub gives_error : (k : GoalKind) (e : Term) → Calls m t c (Some k) → ((w : Turn) (b : ℕ) → goal_by (base_in m) w b its_name its_args (Some k) ≡ Err e) → GivesError m t e
-  gives_error k e h g = λ w b.
-      ap (goal_step (base_in m) w b) h.call.is
-      ∙ by_kind (base_in m) w b its_name its_args
-      ∙ ap (goal_by (base_in m) w b its_name its_args) (ap (goal_kind its_name) (count-seen m.atoms m.state.store c.first.at c.count) ∙ h.kind)
-      ∙ g w b
+  gives_error k e h g = gives_here k e h (g (its_turn m t) t.barrier)
 
   -- one that enters the goal of a place, which is refused
   pub refused : (k : GoalKind) (at : Ref) (why : Cause) (new : Contents) → Calls m t c (Some k) → at.at < length m.state.store.cells
       → ((e : Term) → enter (seen m.atoms m.state.store at.at) ≡ Err e → (w : Turn) (b : ℕ) → goal_by (base_in m) w b its_name its_args (Some k) ≡ Err e)
       → Enters m.atoms m.state.store at (Refused why) new → IsCause m t why
-  refused k at cause.Unbound new h lt g r = gives_error k _ h (g _ r.is)
-  refused k at (cause.Number value) new h lt g r = absurd r
-  refused k at (cause.Unknown name count) new h lt g r = absurd r
-  refused k at (cause.NotInteger term) new h lt g r = absurd r
-  refused k at cause.TooManyArguments new h lt g r = absurd r
+  refused k at cause.Unbound new h lt g r = record { culprit = tt; stands = tt; gives = gives_error k _ h (g _ r.is) }
   refused k at (cause.NotCallable culprit) new h lt g r =
-      subst (λ (p : Ref). IsCause m t (cause.NotCallable p)) (sym r.0) (lt, gives_error k _ h (g _ r.1.is))
+      subst (λ (p : Ref). IsCause m t (cause.NotCallable p)) (sym r.0) (record { culprit = lt; stands = tt; gives = gives_error k _ h (g _ r.1.is) })
+  refused k at _ new h lt g r = absurd r
 
   first_within : 1 ≤ c.count → c.first.at + c.count ≤ length m.state.store.cells → c.first.at < length m.state.store.cells
   first_within le within = omega arith

@@ -1,10 +1,13 @@
 -- Steps of control goals that give two worlds, and on with the second one.
-use Rattle.std.proofs.Common.{◌≡◌, ℕ, true, ◌+◌, List, [], ◌∷◌, ◌++◌, map, length, Some, None, Ok, refl, ap, sym, subst, ◌∙◌, arith}
+use Rattle.std.proofs.Common.{◌≡◌, ◌⊎◌, inl, inr, ℕ, true, ◌+◌, List, [], ◌∷◌, ◌++◌, map, length, Some, None, Ok, refl, ap, sym, subst, ◌∙◌, arith}
 use Rattle.std.specs.List.{AllByRecursion}
 use Rattle.tp_terms.specs.declared.cells.Ref.{Ref}
 use Rattle.tp_terms.specs.Term.{Name, Terms, term_of, count_of}
 use Rattle.tp_terms.specs.Shown.{name_at}
-use Rattle.tp_meaning.specs.declared.goals.GoalKind.TheVariants.{Control}
+use Rattle.tp_meaning.specs.declared.goals.GoalKind.{GoalKind}
+use Rattle.tp_meaning.specs.declared.goals.GoalKind.TheVariants.{Control, Process}
+use Rattle.tp_meaning.specs.declared.goals.ProcessGoal.{ProcessGoal}
+use Rattle.tp_meaning.specs.declared.goals.ProcessGoal.TheVariants.{Wait}
 use Rattle.tp_meaning.specs.declared.goals.ControlGoal.{ControlGoal}
 use Rattle.tp_meaning.specs.declared.goals.ControlGoal.TheVariants as control
 use Rattle.tp_meaning.specs.Goals.{goal_kind}
@@ -31,9 +34,9 @@ use Rattle.tp_machine.specs.declared.task.Task.{Task}
 use Rattle.tp_machine.specs.declared.task.Call.{Call}
 use Rattle.tp_machine.specs.Conditions.{pushes}
 use Rattle.tp_machine.specs.Untried.{untried_by, untried_goal, untried_named, second_in}
-use Rattle.tp_machine.specs.Machine.{IsMachine, IsAgain, IsSecond, Steps, Resumes, again, choosing, base_in, has_second, world_in}
+use Rattle.tp_machine.specs.Machine.{IsMachine, IsAgain, IsSecond, Steps, Resumes, again, choosing, waiting, base_in, has_second, world_in}
 use Rattle.tp_machine.specs.Meets.{Calls, HasCurrent}
-use Rattle.tp_machine.specs.Chooses.{Chooses}
+use Rattle.tp_machine.specs.Chooses.{Chooses, ChoosesBy, by_control, by_wait}
 use Rattle.tp_machine.specs.Goes.{Goes, IsKept, MayKeep, Returns, untried_in}
 use Rattle.tp_machine.proofs.Step.First.{call-gives, items-there, process_there, rest_in, standing, turn_in}
 use Rattle.tp_machine.proofs.Step.Newest.{newest_below}
@@ -131,34 +134,46 @@ module _ (m : Machine) (t : Task) (c : Call) (k : ControlGoal) (h : Calls m t c 
 -- ---- after going back
 
 -- the goal that the running process stands at is the one that gave two worlds
-pub chooses : (m : Machine) (t : Task) (c : Call) → Returns m Second → HasCurrent m t c → (k : ControlGoal) × Chooses m t c k
+pub chooses : (m : Machine) (t : Task) (c : Call) → Returns m Second → HasCurrent m t c → ((k : ControlGoal) × Chooses m t c k) ⊎ Calls m t c (Some (Process Wait))
 chooses m t c back at = by back.goes_on
   where
     first : (a b : Ref) (x y : ℕ) (xs ys : List Item) → ◌≡◌ {A = List Item} (Goal a x ∷ xs) (Goal b y ∷ ys) → a ≡ b
     first a b x y xs ys e = cc
 
-    no-retry : (a b : Ref) (y : ℕ) (xs ys : List Item) → ◌≡◌ {A = List Item} (Retry a ∷ xs) (Goal b y ∷ ys) → (k : ControlGoal) × Chooses m t c k
+    no-retry : (a b : Ref) (y : ℕ) (xs ys : List Item) → ◌≡◌ {A = List Item} (Retry a ∷ xs) (Goal b y ∷ ys) → ((k : ControlGoal) × Chooses m t c k) ⊎ Calls m t c (Some (Process Wait))
     no-retry a b y xs ys e = absurd (cc)
 
-    by : IsSecond m.atoms (plain_of m.state) → (k : ControlGoal) × Chooses m t c k
-    by (again a) = no-retry a.goal t.goal t.barrier a.rest (items_at m.state.frames t.rest) (sym a.list ∙ at.list)
-    by (choosing a) =
-        let goal-same : a.goal ≡ t.goal = first a.goal t.goal a.barrier t.barrier a.rest (items_at m.state.frames t.rest) (sym a.list ∙ at.list) in
+    calls : (goal : Ref) (barrier : ℕ) (rest : List Item) (name : Name) (args : Terms) (k : GoalKind) → items_at m.state.frames m.state.items ≡ Goal goal barrier ∷ rest → seen m.atoms m.state.store goal.at ≡ term_of name args → goal_kind name (count_of args) ≡ Some k → Calls m t c (Some k)
+    calls goal barrier rest name args k list is kind =
+        let goal-same : goal ≡ t.goal = first goal t.goal barrier t.barrier rest (items_at m.state.frames t.rest) (sym list ∙ at.list) in
         let f' = name_at m.atoms c.name.at in
         let ts = args_seen m.atoms m.state.store c.first.at c.count in
-        let same : term_of a.name a.args ≡ term_of f' ts = sym a.is ∙ ap (λ (r : Ref). seen m.atoms m.state.store r.at) goal-same ∙ at.call.is in
-        let named = name-same a.name f' a.args ts same in
-        let counted : count_of a.args ≡ c.count = ap count_of (args-same a.name f' a.args ts same) ∙ count-seen m.atoms m.state.store c.first.at c.count in (
-          a.control,
-          record {
-            two = a.two;
-            calls = record {
-              meets = record { standing = standing m back.machine; running = at.running; few = back.few; list = at.list; stands = at.goal; rest = at.rest };
-              call = at.call;
-              kind = ap (λ g. goal_kind g c.count) (sym named) ∙ ap (goal_kind a.name) (sym counted) ∙ a.kind;
-            };
-          },
-        )
+        let same : term_of name args ≡ term_of f' ts = sym is ∙ ap (λ (r : Ref). seen m.atoms m.state.store r.at) goal-same ∙ at.call.is in
+        let named = name-same name f' args ts same in
+        let counted : count_of args ≡ c.count = ap count_of (args-same name f' args ts same) ∙ count-seen m.atoms m.state.store c.first.at c.count in
+        record {
+          meets = record { standing = standing m back.machine; running = at.running; few = back.few; list = at.list; stands = at.goal; rest = at.rest };
+          call = at.call;
+          kind = ap (λ g. goal_kind g c.count) (sym named) ∙ ap (goal_kind name) (sym counted) ∙ kind;
+        }
+
+    by : IsSecond m.atoms (plain_of m.state) → ((k : ControlGoal) × Chooses m t c k) ⊎ Calls m t c (Some (Process Wait))
+    by (again a) = no-retry a.goal t.goal t.barrier a.rest (items_at m.state.frames t.rest) (sym a.list ∙ at.list)
+    by (choosing a) = inl (a.control, record { two = a.two; calls = calls a.goal a.barrier a.rest a.name a.args (Control a.control) a.list a.is a.kind })
+    by (waiting a) = inr (calls a.goal a.barrier a.rest a.name a.args (Process Wait) a.list a.is a.kind)
+
+-- by the kind that the table of goals has
+pub control_of : (m : Machine) (t : Task) (c : Call) (k : GoalKind) (g : ControlGoal) → k ≡ Control g → ChoosesBy m t c k → Chooses m t c g
+control_of m t c k g e (by_control h is x) = subst (Chooses m t c) (let z : Control h ≡ Control g = sym is ∙ e in cc) x
+control_of m t c k g e (by_wait is x) = absurd (let z : Process Wait ≡ Control g = sym is ∙ e in cc)
+
+pub wait_of : (m : Machine) (t : Task) (c : Call) (k : GoalKind) (g : ProcessGoal) → k ≡ Process g → ChoosesBy m t c k → Calls m t c (Some (Process Wait))
+wait_of m t c k g e (by_control h is x) = absurd (let z : Control h ≡ Process g = sym is ∙ e in cc)
+wait_of m t c k g e (by_wait is x) = x
+
+pub neither : (m : Machine) (t : Task) (c : Call) (k : GoalKind) → ((g : ControlGoal) → k ≡ Control g → ⊥) → ((g : ProcessGoal) → k ≡ Process g → ⊥) → ChoosesBy m t c k → ⊥
+neither m t c k x y (by_control h is z) = x h is
+neither m t c k x y (by_wait is z) = y Wait is
 
 -- where it stands at no goal with a name, it waits for a condition
 pub waits : (m : Machine) (r : ℕ) → Returns m Second → m.state.running ≡ Some r → ((g : Ref) (b : ℕ) (rest : List Item) (f : Name) (ts : Terms) → items_at m.state.frames m.state.items ≡ Goal g b ∷ rest → seen m.atoms m.state.store g.at ≡ term_of f ts → (p : ℕ) → m.state.running ≡ Some p → ⊥) → IsAgain (plain_of m.state)
@@ -167,6 +182,7 @@ waits m r back run none = by back.goes_on
     by : IsSecond m.atoms (plain_of m.state) → IsAgain (plain_of m.state)
     by (again a) = a
     by (choosing a) = absurd (none a.goal a.barrier a.rest a.name a.args a.list a.is r run)
+    by (waiting a) = absurd (none a.goal a.barrier a.rest a.name a.args a.list a.is r run)
 
 -- no other control goal gives two worlds
 pub seconds_only : (k : ControlGoal) → has_second k ≡ true → (k ≡ control.Disjunction → ⊥) → (k ≡ control.NotProvable → ⊥) → (k ≡ control.Repeat → ⊥) → (k ≡ control.Between → ⊥) → ⊥

@@ -38,7 +38,8 @@ items_at-last ls l = go ls
     go [] = refl
     go (x ∷ xs) = go xs
 
-procs-later : (names n m : ℕ) (qs : List Proc) → n ≤ m → AllByRecursion (ProcStands names n) qs → AllByRecursion (ProcStands names m) qs
+-- processes whose items stood still stand where lists were added
+pub procs-later : (names n m : ℕ) (qs : List Proc) → n ≤ m → AllByRecursion (ProcStands names n) qs → AllByRecursion (ProcStands names m) qs
 procs-later names n m qs le h = all-weaker (ProcStands names n) (ProcStands names m) (λ q s. record { name = s.name; items = later q.items s.items }) qs h
   where
     later : (f : Option ItemId) → IfSome f (λ i. i.at < n) → IfSome f (λ i. i.at < m)
@@ -65,7 +66,7 @@ other-stands names p q s o = subst (PlainStands names) (sym o.is) (record {
 })
 
 -- the processes that don't run are the same
-processes-more : (names : List Name) (p : Plain) (more : List (List Item)) (f : Option ItemId) → PlainStands names p → map (process_of names (record p { frames = p.frames ++ more; items = f })) p.procs ≡ map (process_of names p) p.procs
+pub processes-more : (names : List Name) (p : Plain) (more : List (List Item)) (f : Option ItemId) → PlainStands names p → map (process_of names (record p { frames = p.frames ++ more; items = f })) p.procs ≡ map (process_of names p) p.procs
 processes-more names p more f s = map-same (process_of names (record p { frames = p.frames ++ more; items = f })) (process_of names p) (ProcStands (length names) (length p.frames))
     (λ q h. ap (λ is. record { name = Rattle.tp_terms.specs.Shown.name_at names q.name.at; limit = q.end; started = q.started; status = q.status; items = map (item_of names p.store) is }) (items_at-more p.frames more q.items h.items)) p.procs s.procs
 

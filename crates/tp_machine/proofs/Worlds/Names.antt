@@ -12,6 +12,7 @@ use Rattle.tp_terms.specs.Names.{Grows}
 use Rattle.tp_terms.specs.Shown.{shows, name_at, AreNamed}
 use Rattle.tp_terms.proofs.NameLemmas.{Grows-shows, Grows-name_at, Grows-length}
 use Rattle.tp_terms.proofs.ShownLemmas.{AreNamed-longer}
+use Rattle.tp_meaning.specs.Control.{arg}
 use Rattle.tp_meaning.specs.Subst.{mgu, apply}
 use Rattle.tp_meaning.specs.Clauses.{Base, renamed, head_of}
 use Rattle.tp_meaning.specs.World as world
@@ -30,7 +31,7 @@ use Rattle.tp_control.specs.Lists.{items_at}
 use Rattle.tp_state.specs.Plain.{Plain, item_of, items_of, process_of, with_running, processes_of, box_of, kind_of, event_of, world_of}
 use Rattle.tp_terms.specs.Events.{KindStands, EventStands}
 use Rattle.tp_state.specs.Stands.{ProcStands, PlainStands}
-use Rattle.tp_machine.specs.Machine.{GoesOn, again, choosing}
+use Rattle.tp_machine.specs.Machine.{GoesOn, again, choosing, waiting}
 
 -- a map by two functions that agree on each element
 map-each : {A B : Type 0} (f g : A → B) → ((x : A) → f x ≡ g x) → (xs : List A) → map f xs ≡ map g xs
@@ -185,4 +186,35 @@ goes_on-later old new grows base p alt.Second s (choosing h) = choosing (record 
   kind = h.kind;
   two = h.two;
 })
-goes_on-later old new grows base p (alt.Message place) s h = absurd h
+goes_on-later old new grows base p alt.Second s (waiting h) = waiting (record {
+  process = h.process;
+  running = h.running;
+  goal = h.goal;
+  barrier = h.barrier;
+  rest = h.rest;
+  list = h.list;
+  name = h.name;
+  args = h.args;
+  is = seen-later old new grows p.store s.atoms h.goal.at ∙ h.is;
+  kind = h.kind;
+})
+goes_on-later old new grows base p (alt.Message place) s h = record {
+  process = h.process;
+  running = h.running;
+  goal = h.goal;
+  barrier = h.barrier;
+  rest = h.rest;
+  list = h.list;
+  name = h.name;
+  args = h.args;
+  is = seen-later old new grows p.store s.atoms h.goal.at ∙ h.is;
+  kind = h.kind;
+  message = h.message;
+  more = h.more;
+  here = h.here;
+  fits =
+      ap (λ u. is_some (mgu u (seen new p.store h.message.at) (arg 0 h.args))) (subst-later old new grows p.store s.atoms)
+      ∙ ap (λ x. is_some (mgu (subst_of old p.store) x (arg 0 h.args))) (seen-later old new grows p.store s.atoms h.message.at)
+      ∙ h.fits;
+  few = h.few;
+}

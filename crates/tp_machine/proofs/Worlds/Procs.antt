@@ -35,7 +35,7 @@ events-same : (names n a b : ℕ) (es : List Event) → a ≡ b → AllByRecursi
 events-same names n a b es e h = subst (λ k. AllByRecursion (EventStands names n k) es) e h
 
 -- contents with other processes, each of whose names and places stand
-procs-stand : (names : List Name) (p : Plain) (qs : List Proc) → PlainStands names p → length qs ≡ length p.procs → AllByRecursion (ProcStands (length names) (length p.frames)) qs → PlainStands names (record p { procs = qs })
+pub procs-stand : (names : List Name) (p : Plain) (qs : List Proc) → PlainStands names p → length qs ≡ length p.procs → AllByRecursion (ProcStands (length names) (length p.frames)) qs → PlainStands names (record p { procs = qs })
 procs-stand names p qs s e h = record {
   store = s.store;
   atoms = s.atoms;

@@ -1,23 +1,9 @@
-use Rattle.std.proofs.Common.{◌≡◌, length, subst, Some, slice_get, arith}
-use Rattle.tp_terms.specs.Shown.{shows, shown_from}
-use Rattle.tp_machine.proofs.Again.{again_built}
-use Rattle.tp_machine.proofs.Raised.{before-longer, built_trans, numbered_cell}
+use Rattle.tp_terms.specs.Shown.{shows}
+use Rattle.tp_machine.proofs.Raised.{built_trans}
 use Rattle.tp_machine.proofs.errors.raised_kind.Goals as goal
-
-pub place-requires-clause-before : goal.place-requires-clause-before
-place-requires-clause-before c = before-longer c.args.kind.at (length c.args.store.now.cells) c.get-cell.result (omega (arith, c.requires)) c.get-cell.ensures.before
-
-pub place-requires-clause-numbered : goal.place-requires-clause-numbered
-place-requires-clause-numbered c =
-    let s = c.args.store.now in
-    numbered_cell s c.args.kind.at c.get-cell.result c.cells.ensures.store (subst (λ cs. slice_get cs c.args.kind.at ≡ Some c.get-cell.result) c.cells.ensures.cells c.get-cell.ensures.value)
 
 pub returns : goal.returns
 returns c names table named within =
     let s = c.args.store.now in
-    let x = c.get-cell.result in
-    let there = subst (λ cs. slice_get cs c.args.kind.at ≡ Some x) c.cells.ensures.cells c.get-cell.ensures.value in
-    let shown = subst (λ cs. shows names cs c.args.kind.at ≡ shown_from names cs x) c.cells.ensures.cells (c.get-cell.ensures.shown names) in
-    let last = c.in_ok-last.last in
-    let first = again_built names s c.place.new.self x c.args.kind.at last.at c.in_ok-last.ensures.value c.in_ok-last.ensures.keeps c.in_ok-last.ensures.store named there shown c.in_ok-last.ensures.place in
-    built_trans names s c.place.new.self c.error.new.store last.at c.in_ok-place.place.at c.args.process (shows names s.cells c.args.kind.at) first (c.in_ok-place.ensures names table first.named within)
+    let first = c.in_ok-last.ensures.built names table named in
+    built_trans names s c.placed_again.new.store c.error.new.store c.in_ok-last.last.at c.in_ok-place.place.at c.args.process (shows names s.cells c.args.kind.at) first (c.in_ok-place.ensures names table first.named within)
