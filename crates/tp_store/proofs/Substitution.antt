@@ -2,3 +2,4 @@
 pub mod Chained
 pub mod Kept
 pub mod Taken
+pub mod Closed

@@ -1,14 +1,15 @@
 -- Chained bindings, as the code keeps them.
-use Rattle.std.specs.Prelude.{◌≡◌, ◌⊎◌, ℕ, ◌+◌, ◌<◌, List, Option, Some, None, length, reverse, slice_get, slice_index_or}
+use Rattle.std.specs.Prelude.{◌≡◌, ◌⊎◌, ℕ, ◌+◌, ◌<◌, List, [], ◌∷◌, Option, Some, None, length, reverse, slice_get, slice_index_or}
 use Rattle.tp_terms.specs.declared.cells.Cell.{Cell}
 use Rattle.tp_terms.specs.declared.cells.Cell.TheVariants as cell
 use Rattle.tp_terms.specs.declared.cells.Ref.{Ref}
+use Rattle.tp_terms.specs.declared.world.StoreMark.{StoreMark}
 use Rattle.tp_terms.specs.Term.{Name}
 use Rattle.tp_terms.specs.Shown.{StandsBefore}
 use Rattle.tp_terms.specs.Binds.{Bindings, bound_in}
 use Rattle.tp_store.specs.declared.chains.Chains.{Chains}
 use Rattle.tp_store.specs.declared.chains.End.{End}
-use Rattle.tp_store.specs.Contents.{Contents, IsStore, IsUnbound, IsNumbered, seen, seen_cell}
+use Rattle.tp_store.specs.Contents.{Contents, IsConstant, IsStore, IsUnbound, IsNumbered, seen, seen_cell}
 
 -- what the bindings and cells hold; the list in memory has the newest binding last
 abbrev pub contents_of : Chains → Contents
@@ -19,9 +20,28 @@ contents_of s =
 pub record IsTable (bound : List (Option Ref)) (pairs : Bindings) : Type 0 where
   pub kept : (v : ℕ) → slice_index_or bound v None ≡ bound_in pairs v
 
+-- a place before the mark, or the place of an integer or an atom
+abbrev pub IsBefore : StoreMark → List Cell → Ref → Type 0
+IsBefore mark cells place = (place.at < mark.cells) ⊎
+    ((x : Cell) × (slice_get cells place.at ≡ Some x) × IsConstant x)
+
+-- variables with numbers below the mark's are bound to such places
+abbrev pub AreBefore : StoreMark → List Cell → Bindings → Type 0
+AreBefore mark cells [] = Unit {0}
+AreBefore mark cells (p ∷ pairs) =
+    (p.0 < mark.vars → IsBefore mark cells p.1) × AreBefore mark cells pairs
+
+-- The cells before the mark have variables below it alone, and so have the terms that these are
+-- bound to.
+pub record IsClosed (cells : List Cell) (pairs : Bindings) (mark : StoreMark) : Type 0 where
+  pub variables : (at v : ℕ) → at < mark.cells → slice_get cells at ≡ Some (cell.Var v) →
+      v < mark.vars
+  pub bound : AreBefore mark cells pairs
+
 pub record IsChains (s : Chains) : Type 0 where
   pub store : IsStore (contents_of s)
   pub table : IsTable s.bound.items (reverse s.pairs.items)
+  pub closed : IsClosed s.cells.items (reverse s.pairs.items) s.closed
 
 -- a place at which a chain of bindings ends, and its cell
 pub record IsEnd (c : Contents) (e : End) : Type 0 where

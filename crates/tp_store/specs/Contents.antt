@@ -79,6 +79,13 @@ IsNumbered vars (cell.Int value) = Unit {0}
 IsNumbered vars (cell.Atom name) = Unit {0}
 IsNumbered vars (cell.Comp name first count) = Unit {0}
 
+-- an integer or an atom
+abbrev pub IsConstant : Cell → Type 0
+IsConstant (cell.Var v) = ⊥
+IsConstant (cell.Int value) = Unit {0}
+IsConstant (cell.Atom name) = Unit {0}
+IsConstant (cell.Comp name first count) = ⊥
+
 -- no variable that is bound
 abbrev pub IsUnbound : Bindings → Cell → Type 0
 IsUnbound pairs (cell.Var v) = bound_in pairs v ≡ None

@@ -10,6 +10,7 @@ use Rattle.tp_terms.specs.Binds.{bound_in}
 use Rattle.tp_meaning.specs.Subst.{Subst, apply, value_at, bound_to}
 use Rattle.tp_store.specs.declared.pairs.Pair.{Pair}
 use Rattle.tp_store.specs.declared.pairs.Pair.TheVariants.{Same, Clash, Bind}
+pub use Rattle.tp_store.specs.Contents.{IsConstant}
 use Rattle.tp_store.specs.Contents.{Contents, Names, subst_of, seen, seen_cell}
 use Rattle.tp_store.specs.Chain.{IsEnd, rank}
 
@@ -60,13 +61,6 @@ Each f names cells (p ∷ ps) =
 abbrev pub Equal : (ℕ → Term) → List Name → List Cell → Cell → Cell → Type 0
 Equal f names cells x y =
     replaced f (shown_from names cells x) ≡ replaced f (shown_from names cells y)
-
--- an integer or an atom
-abbrev pub IsConstant : Cell → Type 0
-IsConstant (cell.Var v) = ⊥
-IsConstant (cell.Int value) = Unit {0}
-IsConstant (cell.Atom name) = Unit {0}
-IsConstant (cell.Comp name first count) = ⊥
 
 -- whether two cells are the same integer or the same atom
 abbrev pub constants_eq : Cell → Cell → Bool

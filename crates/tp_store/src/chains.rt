@@ -4,7 +4,7 @@ ghost use Rattle.std.specs.Prelude.{◌≡◌, ◌+◌, ◌^◌, ◌<◌, ◌≤
 ghost use Rattle.tp_terms.specs.Term.{Name};
 ghost use Rattle.tp_terms.specs.Shown.{StandsBefore, shown_from, shows};
 ghost use Rattle.tp_store.specs.Contents.{Contents, IsStore, Adds, CanGoBack, IsNumbered, IsUnbound, cut_to_mark, with_cell, with_vars, with_pair, seen, seen_cell};
-ghost use Rattle.tp_store.specs.Chain.{IsChains, IsEnd, LeadsOn, MayEndAt, contents_of};
+ghost use Rattle.tp_store.specs.Chain.{IsChains, IsClosed, IsEnd, LeadsOn, MayEndAt, contents_of};
 ghost use Rattle.tp_store.specs.Logged.{IsBound, unbound, without_pair};
 ghost use Rattle.std.specs.List.{remove};
 
@@ -20,6 +20,8 @@ pub struct Chains {
     pub bound: Vec<Option<Ref>>,
     /// The bindings in their order.
     pub pairs: Vec<(u64, Ref)>,
+    /// A mark before which terms have no variables but those that were claimed before it.
+    pub closed: StoreMark,
 }
 
 /// The end of a chain of bindings.
@@ -30,6 +32,9 @@ pub struct End {
     /// Its cell, which is no bound variable.
     pub cell: Cell,
 }
+
+/// The mark before which nothing stands.
+const START: StoreMark = StoreMark { cells: 0, vars: 0 };
 
 /// The place of the newest pair of a bound variable.
 fn newest_of(pairs: &[(u64, Ref)], number: u64) -> usize
@@ -55,6 +60,7 @@ impl Chains {
             cells: Cells::new(alloc),
             bound: Vec::new(alloc),
             pairs: Vec::new(alloc),
+            closed: START,
         }
     }
 
@@ -102,6 +108,7 @@ impl Chains {
         ensures succeeds { 0 < self.old.cells.room → IsOk result }
     {
         let at = self.cells.push(cell)?;
+        self.closed.cells = self.closed.cells.min(at.at);
         Ok(at)
     }
 
@@ -120,6 +127,10 @@ impl Chains {
             return Err(NoMemory);
         };
         self.bound.resize(len, None)?;
+        self.closed = StoreMark {
+            cells: self.cells.len(),
+            vars: first as u64,
+        };
         Ok(first as u64)
     }
 
@@ -138,6 +149,22 @@ impl Chains {
         self.place(Cell::Var(number))
     }
 
+    /// The closed mark, once a variable is bound to a place.
+    fn closed_with(&self, number: u64, place: Ref) -> StoreMark
+        requires chains { IsChains self.now }
+        requires place { place.at < length self.now.cells.items }
+        ensures { IsClosed self.now.cells.items ((number, place) ∷ reverse self.now.pairs.items)
+            result }
+    {
+        if number >= self.closed.vars || place.at < self.closed.cells {
+            return self.closed;
+        }
+        match self.cells.get(place) {
+            Cell::Int(_) | Cell::Atom(_) => self.closed,
+            _ => START,
+        }
+    }
+
     /// Binds an unbound variable to a place whose term doesn't have it.
     pub fn bind(&mut self, number: u64, place: Ref) -> Result<(), NoMemory>
         requires chains { IsChains self.old }
@@ -151,8 +178,10 @@ impl Chains {
         ensures table { OnOk result
             (self.new.bound.items ≡ slice_set self.old.bound.items number (Some place)) }
     {
+        let closed = self.closed_with(number, place);
         self.pairs.push((number, place))?;
         self.bound[number as usize] = Some(place);
+        self.closed = closed;
         Ok(())
     }
 

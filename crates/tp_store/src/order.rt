@@ -1,15 +1,15 @@
 //! The standard order of terms: a list of pairs in place of recursion.
 
-ghost use Rattle.std.specs.Prelude.{◌≡◌, ◌+◌, ◌<◌, ◌≤◌, ◌^◌, ◌++◌, length, reverse, IfOk, OnOk};
+ghost use Rattle.std.specs.Prelude.{◌≡◌, ◌+◌, ◌<◌, ◌≤◌, ◌^◌, length, IfOk};
 ghost use Rattle.tp_terms.specs.Shown.{AreNamed, IsNamed, StandsBefore, name_at};
 ghost use Rattle.tp_meaning.specs.Order.{name_cmp};
 ghost use Rattle.tp_store.specs.Contents.{Contents, IsStore};
 ghost use Rattle.tp_store.specs.Chain.{IsChains, IsEnd, contents_of};
-ghost use Rattle.tp_store.specs.Work.{pairs_from};
 ghost use Rattle.tp_store.specs.Ordered.{IsOrder, Ranks, cells_cmp, compound_in, heads_cmp, kind_of};
 
 use crate::chains::{Chains, End};
 use crate::join::Parts;
+use crate::pairs::push_rows;
 use std::alloc::Global;
 use std::cmp::Ordering;
 use tp_terms::{AtomId, Atoms, Cell, NoMemory, Ref};
@@ -72,26 +72,6 @@ fn compare_heads(left: Parts, right: Parts, atoms: &Atoms) -> Ordering
         Ordering::Equal => compare_names(atoms, left.name, right.name),
         order => order,
     }
-}
-
-/// Adds the pairs of two rows of adjacent places to a list from which the last pair is taken first,
-/// so that the first of these is.
-fn push_rows(work: &mut Vec<(Ref, Ref)>, left: Ref, right: Ref, count: u8) -> Result<(), NoMemory>
-    requires left { left.at + count < 2 ^ 64 }
-    requires right { right.at + count < 2 ^ 64 }
-    ensures { OnOk result
-        (reverse work.new.items ≡ pairs_from left.at right.at count ++ reverse work.old.items) }
-{
-    'rows: for k in 0..count {
-        let next = Ref {
-            at: left.at + (count - 1 - k) as usize,
-        };
-        let other = Ref {
-            at: right.at + (count - 1 - k) as usize,
-        };
-        work.push((next, other))?;
-    }
-    Ok(())
 }
 
 /// Compares two compounds. The pairs of arguments go to the list where nothing else decides.

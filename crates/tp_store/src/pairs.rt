@@ -1,6 +1,6 @@
 //! Lists of places that are still to be looked at: a list in place of recursion.
 
-ghost use Rattle.std.specs.Prelude.{◌≡◌, ℕ, ◌+◌, ◌^◌, ◌<◌, List, [], ◌∷◌, ◌++◌, length, OnOk, IfOk};
+ghost use Rattle.std.specs.Prelude.{◌≡◌, ℕ, ◌+◌, ◌^◌, ◌<◌, true, false, List, [], ◌∷◌, ◌++◌, length, reverse, OnOk, IfOk};
 ghost use Rattle.tp_terms.specs.Term.{Name, occurs};
 ghost use Rattle.tp_terms.specs.Shown.{StandsBefore};
 ghost use Rattle.tp_store.specs.Contents.{Contents, IsStore, seen};
@@ -35,18 +35,25 @@ fn push_places(work: &mut Vec<Ref>, first: Ref, count: u8) -> Result<(), NoMemor
     Ok(())
 }
 
-/// Adds the pairs of two rows of adjacent places to a list.
-fn push_pairs(work: &mut Vec<(Ref, Ref)>, left: Ref, right: Ref, count: u8) -> Result<(), NoMemory>
+/// Adds the pairs of two rows of adjacent places to a list from which the last pair is taken first,
+/// so that the first of these is.
+pub fn push_rows(
+    work: &mut Vec<(Ref, Ref)>,
+    left: Ref,
+    right: Ref,
+    count: u8,
+) -> Result<(), NoMemory>
     requires left { left.at + count < 2 ^ 64 }
     requires right { right.at + count < 2 ^ 64 }
-    ensures { OnOk result (work.new.items ≡ work.old.items ++ pairs_from left.at right.at count) }
+    ensures { OnOk result
+        (reverse work.new.items ≡ pairs_from left.at right.at count ++ reverse work.old.items) }
 {
-    for k in 0..count {
+    'rows: for k in 0..count {
         let next = Ref {
-            at: left.at + k as usize,
+            at: left.at + (count - 1 - k) as usize,
         };
         let other = Ref {
-            at: right.at + k as usize,
+            at: right.at + (count - 1 - k) as usize,
         };
         work.push((next, other))?;
     }
@@ -71,7 +78,27 @@ fn visit(number: u64, end: End, work: &mut Vec<Ref>) -> Result<bool, NoMemory>
     }
 }
 
-/// Whether a variable occurs in the term of a place, under the bindings.
+/// Whether the closed mark, or the end of a place's chain alone, shows that a variable doesn't occur
+/// in the place's term.
+fn is_apart(chains: &Chains, number: u64, place: Ref) -> bool
+    requires chains { IsChains chains.now }
+    requires place { place.at < length chains.now.cells.items }
+    ensures { result ≡ true → (names : List Name) →
+        occurs number (seen names (contents_of chains.now) place.at) ≡ false }
+{
+    if number >= chains.closed.vars && place.at < chains.closed.cells {
+        return true;
+    }
+    match chains.end(place).cell {
+        Cell::Var(other) => other != number,
+        Cell::Int(_) | Cell::Atom(_) => true,
+        Cell::Comp { .. } => false,
+    }
+}
+
+/// Whether a variable occurs in the term of a place, under the bindings. The time is constant for
+/// an integer or an atom, and for a place before the closed mark where the variable was claimed
+/// after it.
 pub fn occurs_at(chains: &Chains, alloc: Global, number: u64, place: Ref) -> Result<bool, NoMemory>
     requires chains { IsChains chains.now }
     requires place { place.at < length chains.now.cells.items }
@@ -79,6 +106,9 @@ pub fn occurs_at(chains: &Chains, alloc: Global, number: u64, place: Ref) -> Res
         (λ found. (names : List Name) →
         found ≡ occurs number (seen names (contents_of chains.now) place.at)) }
 {
+    if is_apart(chains, number, place) {
+        return Ok(false);
+    }
     let mut work = Vec::new(alloc);
     work.push(place)?;
     'visits: while let Some(at) = work.pop() {
@@ -138,7 +168,7 @@ fn compare_constant(constant: End, other: End) -> Pair
 }
 
 /// Compares a compound, given by its name, its arguments and its place, with the end of another
-/// chain. The pairs of arguments go to the list.
+/// chain. The pairs of arguments go to the list, the first one to be taken first.
 fn compare_compound(
     name: AtomId,
     args: (Ref, u8),
@@ -164,7 +194,7 @@ fn compare_compound(
             if name.at != second.at || args.1 != count {
                 return Ok(Pair::Clash);
             }
-            push_pairs(work, args.0, first, count)?;
+            push_rows(work, args.0, first, count)?;
             Ok(Pair::Same)
         }
         _ => Ok(Pair::Clash),

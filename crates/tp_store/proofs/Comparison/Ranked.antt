@@ -1,5 +1,5 @@
 -- What the comparison of two cells tells, and what is left to compare.
-use Rattle.std.proofs.Common.{◌≡◌, ℕ, zero, suc, ◌+◌, ◌-◌, ◌<◌, ◌≤◌, Bool, true, false, cond, List, [], ◌∷◌, ◌++◌, length, reverse, Some, None, refl, ap, sym, subst, ◌∙◌, arith}
+use Rattle.std.proofs.Common.{◌≡◌, ℕ, zero, suc, ◌+◌, ◌<◌, ◌≤◌, Bool, true, false, cond, List, [], ◌∷◌, ◌++◌, length, reverse, Some, None, refl, ap, sym, subst, ◌∙◌, arith}
 use Rattle.std.proofs.lemmas.Cmp.{ranked}
 use Rattle.std.proofs.lemmas.Int.{ints}
 use Rattle.std.proofs.lemmas.Bool.Decides.{nat_tests}
@@ -80,18 +80,6 @@ pairs_cmp-append names c (p ∷ ps) qs =
 pairs_cmp-pairs_from : (names : List Name) (c : Contents) (a b n : ℕ) → pairs_cmp names c (pairs_from a b n) ≡ terms_cmp (args_seen names c a n) (args_seen names c b n)
 pairs_cmp-pairs_from names c a b zero = refl
 pairs_cmp-pairs_from names c a b (suc n) = ap (ordering_then (term_cmp (seen names c a) (seen names c b))) (pairs_cmp-pairs_from names c (suc a) (suc b) n)
-
--- a pair of the rows more, before the others
-pub rows_pushed : (old mid new : List (Ref × Ref)) (a b n k : ℕ) (x y : Ref) → k < n → reverse mid ≡ pairs_from (a + (n - k)) (b + (n - k)) k ++ reverse old → reverse new ≡ (x, y) ∷ reverse mid → x.at ≡ a + (n - 1 - k) → y.at ≡ b + (n - 1 - k) → reverse new ≡ pairs_from (a + (n - (k + 1))) (b + (n - (k + 1))) (k + 1) ++ reverse old
-rows_pushed old mid new a b n k x y lt m e ex ey =
-    let k1 : k + 1 ≡ suc k = omega arith in
-    let d : n - 1 - k ≡ n - suc k = omega arith in
-    let sa : a + (n - k) ≡ suc (a + (n - suc k)) = omega arith in
-    let sb : b + (n - k) ≡ suc (b + (n - suc k)) = omega arith in
-    e
-    ∙ ap (λ l. (x, y) ∷ l) (m ∙ ap (λ i. pairs_from i (b + (n - k)) k ++ reverse old) sa ∙ ap (λ i. pairs_from (suc (a + (n - suc k))) i k ++ reverse old) sb)
-    ∙ ap (λ (p : Ref × Ref). p ∷ pairs_from (suc (a + (n - suc k))) (suc (b + (n - suc k))) k ++ reverse old) (ap (λ i. (record { at = i }, y)) (ex ∙ ap (λ i. a + i) d) ∙ ap (λ i. (record { at = a + (n - suc k) }, record { at = i })) (ey ∙ ap (λ i. b + i) d))
-    ∙ ap (λ i. pairs_from (a + (n - i)) (b + (n - i)) i ++ reverse old) (sym k1)
 
 -- ---- two cells
 

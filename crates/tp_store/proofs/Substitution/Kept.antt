@@ -15,7 +15,7 @@ use Rattle.tp_terms.proofs.ShownLemmas.{shows-append, shows-take}
 use Rattle.tp_terms.proofs.NameLemmas.{slice_get-append, slice_get-push}
 use Rattle.tp_meaning.specs.Subst.{apply, extended}
 use Rattle.tp_store.specs.Contents.{Contents, chained, subst_of, seen, Adds, AreChained, IsStore, IsNumbered, AddsCells, CanGoBack, Keeps, cut_to_mark, with_cell, with_vars, with_pair}
-use Rattle.tp_store.specs.Chain.{IsTable, IsChains, contents_of}
+use Rattle.tp_store.specs.Chain.{IsTable, IsChains, IsClosed, contents_of}
 use Rattle.tp_store.specs.declared.chains.Chains.{Chains}
 
 -- ---- cells that show the same at the places of the bindings
@@ -216,10 +216,14 @@ IsTable-cut bound pairs n t none = record { kept = λ x. at x (nat_lt x n) refl 
 
 -- ---- bindings and cells as the code keeps them
 
-pub IsChains-of : (new : Chains) (c : Contents) → new.cells.items ≡ c.cells → reverse new.pairs.items ≡ c.pairs → length new.bound.items ≡ c.vars → IsStore c → IsTable new.bound.items c.pairs → IsChains new
-IsChains-of new c cells pairs vars s t =
+pub IsChains-of : (new : Chains) (c : Contents) → new.cells.items ≡ c.cells → reverse new.pairs.items ≡ c.pairs → length new.bound.items ≡ c.vars → IsStore c → IsTable new.bound.items c.pairs → IsClosed c.cells c.pairs new.closed → IsChains new
+IsChains-of new c cells pairs vars s t closed =
     let same : c ≡ contents_of new = ap (λ cs. record { cells = cs; pairs = c.pairs; vars = c.vars }) (sym cells) ∙ ap (λ ps. record { cells = new.cells.items; pairs = ps; vars = c.vars }) (sym pairs) ∙ ap (λ n. record { cells = new.cells.items; pairs = reverse new.pairs.items; vars = n }) (sym vars) in
-    record { store = subst IsStore same s; table = subst (IsTable new.bound.items) (sym pairs) t }
+    record {
+      store = subst IsStore same s;
+      table = subst (IsTable new.bound.items) (sym pairs) t;
+      closed = subst (λ ps. IsClosed new.cells.items ps new.closed) (sym pairs) (subst (λ cs. IsClosed cs c.pairs new.closed) (sym cells) closed);
+    }
 
 -- the newest binding is last in memory
 pub reverse-push : (pairs more : List (ℕ × Ref)) (p : ℕ × Ref) → more ≡ pairs ++ p ∷ [] → reverse more ≡ p ∷ reverse pairs
@@ -238,9 +242,15 @@ module _ (old new : Chains) (p : ℕ × Ref) (h : IsChains old) (newest : old.pa
   unfolding before
   newest_claimed = (had.chain []).0.claimed
 
-  pub IsChains-undo : new.cells.items ≡ old.cells.items → new.bound.items ≡ set old.bound.items p.0 None → IsChains new
+  pub IsChains-undo : new.cells.items ≡ old.cells.items → new.bound.items ≡ set old.bound.items p.0 None → new.closed ≡ old.closed → IsChains new
   unfolding before
-  IsChains-undo cells bound =
+  IsChains-undo cells bound mark =
       IsChains-of new before cells refl (ap length bound ∙ length-set old.bound.items p.0 None) (IsStore-unpair before p.0 p.1 had)
       (subst (λ os. IsTable os (reverse new.pairs.items)) (sym bound)
       (IsTable-unpair old.bound.items (reverse new.pairs.items) p.0 p.1 (subst (IsTable old.bound.items) (reverse-push new.pairs.items old.pairs.items p newest) h.table) newest_claimed (had.chain []).0.unbound))
+      (subst (IsClosed old.cells.items (reverse new.pairs.items)) (sym mark) rest)
+    where
+      rest : IsClosed old.cells.items (reverse new.pairs.items) old.closed
+      rest =
+          let all : IsClosed old.cells.items (p ∷ reverse new.pairs.items) old.closed = subst (λ ps. IsClosed old.cells.items ps old.closed) (reverse-push new.pairs.items old.pairs.items p newest) h.closed in
+          record { variables = all.variables; bound = all.bound.1 }

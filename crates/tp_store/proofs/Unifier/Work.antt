@@ -1,6 +1,7 @@
 -- Laws of the lists of places that are still to be looked at, and of the comparison of two cells.
-use Rattle.std.proofs.Common.{◌≡◌, ◌≢◌, ℕ, zero, suc, ◌+◌, ◌<◌, ◌≤◌, Bool, true, false, ◌||◌, List, [], ◌∷◌, ◌++◌, length, None, nat_eq, refl, sym, ap, ◌∙◌, arith, append_assoc, append-nil, subst, add-one, add-zero, ◌↔◌}
+use Rattle.std.proofs.Common.{◌≡◌, ◌≢◌, ℕ, zero, suc, ◌+◌, ◌-◌, ◌<◌, ◌≤◌, Bool, true, false, ◌||◌, List, [], ◌∷◌, ◌++◌, length, reverse, None, nat_eq, refl, sym, ap, ◌∙◌, arith, append_assoc, append-nil, subst, add-one, add-zero, ◌↔◌}
 use Rattle.std.proofs.lemmas.Bool.{eqb-true, eq-eqb}
+use Rattle.std.proofs.lemmas.List.{reverse-append, reverse-reverse}
 use Rattle.std.proofs.lemmas.Bool.Decides.{Decides-int_eq}
 use Rattle.tp_terms.specs.declared.cells.Cell.{Cell}
 use Rattle.tp_terms.specs.declared.cells.Ref.{Ref}
@@ -12,7 +13,7 @@ use Rattle.tp_terms.proofs.ShownLemmas.{shows-cell, AreNamed-cell}
 use Rattle.tp_terms.proofs.NameLemmas.{same_place}
 use Rattle.tp_terms.specs.Binds.{bound_in}
 use Rattle.tp_meaning.specs.Subst.{value_at}
-use Rattle.tp_meaning.proofs.Unify.{unbound}
+use Rattle.tp_meaning.proofs.Unify.{unbound, flip_eq}
 use Rattle.tp_meaning.proofs.Complete.{has_size, count-replaced}
 use Rattle.tp_store.specs.declared.chains.End.{End}
 use Rattle.tp_store.specs.declared.pairs.Pair.{Pair}
@@ -28,23 +29,22 @@ places_from-suc : (a n : ℕ) → places_from a (suc n) ≡ places_from a n ++ r
 places_from-suc a zero = ap (λ k. record { at = k } ∷ []) (sym (add-zero a))
 places_from-suc a (suc n) = ap (λ l. record { at = a } ∷ l) (places_from-suc (suc a) n ∙ ap (λ k. places_from (suc a) n ++ record { at = k } ∷ []) (omega arith))
 
-pairs_from-suc : (a b n : ℕ) → pairs_from a b (suc n) ≡ pairs_from a b n ++ (record { at = a + n }, record { at = b + n }) ∷ []
-pairs_from-suc a b zero = rw (add-zero, add-zero) refl
-pairs_from-suc a b (suc n) =
-    let e : suc a + n ≡ a + suc n = omega arith in
-    let f : suc b + n ≡ b + suc n = omega arith in
-    ap (λ l. (record { at = a }, record { at = b }) ∷ l) (rw (← e, ← f) (pairs_from-suc (suc a) (suc b) n))
-
 pub places_pushed : (old mid new : List Ref) (a k : ℕ) → mid ≡ old ++ places_from a k → new ≡ mid ++ record { at = a + k } ∷ [] → new ≡ old ++ places_from a (k + 1)
 places_pushed old mid new a k e f =
     f ∙ ap (λ l. l ++ record { at = a + k } ∷ []) e ∙ append_assoc old (places_from a k) (record { at = a + k } ∷ [])
     ∙ ap (λ l. old ++ l) (sym (places_from-suc a k) ∙ ap (places_from a) (sym (add-one k)))
 
-pub pairs_pushed : (old mid new : List (Ref × Ref)) (a b k : ℕ) → mid ≡ old ++ pairs_from a b k → new ≡ mid ++ (record { at = a + k }, record { at = b + k }) ∷ [] → new ≡ old ++ pairs_from a b (k + 1)
-pairs_pushed old mid new a b k e f =
-    f ∙ ap (λ (l : List (Ref × Ref)). l ++ (record { at = a + k }, record { at = b + k }) ∷ []) e
-    ∙ append_assoc old (pairs_from a b k) ((record { at = a + k }, record { at = b + k }) ∷ [])
-    ∙ ap (λ l. old ++ l) (sym (pairs_from-suc a b k) ∙ ap (pairs_from a b) (sym (add-one k)))
+-- a pair of the rows more, before the others
+pub rows_pushed : (old mid new : List (Ref × Ref)) (a b n k : ℕ) (x y : Ref) → k < n → reverse mid ≡ pairs_from (a + (n - k)) (b + (n - k)) k ++ reverse old → reverse new ≡ (x, y) ∷ reverse mid → x.at ≡ a + (n - 1 - k) → y.at ≡ b + (n - 1 - k) → reverse new ≡ pairs_from (a + (n - (k + 1))) (b + (n - (k + 1))) (k + 1) ++ reverse old
+rows_pushed old mid new a b n k x y lt m e ex ey =
+    let k1 : k + 1 ≡ suc k = omega arith in
+    let d : n - 1 - k ≡ n - suc k = omega arith in
+    let sa : a + (n - k) ≡ suc (a + (n - suc k)) = omega arith in
+    let sb : b + (n - k) ≡ suc (b + (n - suc k)) = omega arith in
+    e
+    ∙ ap (λ l. (x, y) ∷ l) (m ∙ ap (λ i. pairs_from i (b + (n - k)) k ++ reverse old) sa ∙ ap (λ i. pairs_from (suc (a + (n - suc k))) i k ++ reverse old) sb)
+    ∙ ap (λ (p : Ref × Ref). p ∷ pairs_from (suc (a + (n - suc k))) (suc (b + (n - suc k))) k ++ reverse old) (ap (λ i. (record { at = i }, y)) (ex ∙ ap (λ i. a + i) d) ∙ ap (λ i. (record { at = a + (n - suc k) }, record { at = i })) (ey ∙ ap (λ i. b + i) d))
+    ∙ ap (λ i. pairs_from (a + (n - i)) (b + (n - i)) i ++ reverse old) (sym k1)
 
 -- a row of places is the row of their terms
 occurs_each-places_from : (names : List Name) (c : Contents) (v first n : ℕ) → occurs_each names c v (places_from first n) ≡ occurs_in v (all_replaced (value_at (subst_of names c)) (args_at names c.cells first n))
@@ -116,6 +116,33 @@ Each-pairs_from f names cells a b zero = (λ h. tt, λ h. refl)
 Each-pairs_from f names cells a b (suc n) =
     let k = Each-pairs_from f names cells (suc a) (suc b) n in
     (λ h. (row-head h, k.0 (row-tail h)), λ h. ap (λ t. More t (all_replaced f (args_at names cells (suc a) n))) h.0 ∙ ap (More (replaced f (shows names cells b))) (k.1 h.1))
+
+-- ---- pairs of which the last one is the first
+
+reverse-cons : (p : Ref × Ref) (ps : List (Ref × Ref)) → reverse (p ∷ ps) ≡ reverse ps ++ p ∷ []
+reverse-cons p ps = reverse-append (p ∷ []) ps
+
+ArePairsIn-reverse : (cells : List Cell) (ps : List (Ref × Ref)) → ArePairsIn cells ps → ArePairsIn cells (reverse ps)
+ArePairsIn-reverse cells [] h = tt
+ArePairsIn-reverse cells (p ∷ ps) h = subst (ArePairsIn cells) (sym (reverse-cons p ps)) (ArePairsIn-append cells (reverse ps) (p ∷ []) (ArePairsIn-reverse cells ps h.2) (h.0, h.1, tt))
+
+pairs_size-reverse : (c : Contents) (ps : List (Ref × Ref)) → pairs_size c (reverse ps) ≡ pairs_size c ps
+pairs_size-reverse c [] = refl
+pairs_size-reverse c (p ∷ ps) = omega (arith, ap (pairs_size c) (reverse-cons p ps), pairs_size-append c (reverse ps) (p ∷ []), pairs_size-reverse c ps)
+
+Each-reverse : (f : ℕ → Term) (names : List Name) (cells : List Cell) (ps : List (Ref × Ref)) → Each f names cells ps ↔ Each f names cells (reverse ps)
+Each-reverse f names cells [] = (λ h. h, λ h. h)
+Each-reverse f names cells (p ∷ ps) =
+    let k = Each-reverse f names cells ps in
+    let q = Each-append f names cells (reverse ps) (p ∷ []) in
+    let e = reverse-cons p ps in (
+      λ h. subst (Each f names cells) (sym e) (q.1 (k.0 h.1, (h.0, tt))),
+      λ h. let r = q.0 (subst (Each f names cells) e h) in (r.1.0, k.1 r.0),
+    )
+
+-- a list by itself and what was put before it in reverse
+from_reverse : (old new ps : List (Ref × Ref)) → reverse new ≡ ps ++ reverse old → new ≡ old ++ reverse ps
+from_reverse old new ps e = sym (reverse-reverse new) ∙ ap reverse e ∙ reverse-append ps (reverse old) ∙ ap (λ l. l ++ reverse ps) (reverse-reverse old)
 
 count-args_at : (names : List Name) (cells : List Cell) (a n : ℕ) → count_of (args_at names cells a n) ≡ n
 count-args_at names cells a zero = refl
@@ -229,20 +256,22 @@ clash_counts c a b m k first second n i work ea eb apart = (
 )
 
 -- compounds of one name and number of arguments ask for their pairs of arguments
-pub same_compounds : (c : Contents) (a b : End) (m k : AtomId) (first second : Ref) (n : ℕ) (old new : List (Ref × Ref)) → IsEnd c a → IsEnd c b → a.cell ≡ cell.Comp m first n → b.cell ≡ cell.Comp k second n → m.at ≡ k.at → new ≡ old ++ pairs_from first.at second.at n → CellStep c a.cell b.cell old new Same
+pub same_compounds : (c : Contents) (a b : End) (m k : AtomId) (first second : Ref) (n : ℕ) (old new : List (Ref × Ref)) → IsEnd c a → IsEnd c b → a.cell ≡ cell.Comp m first n → b.cell ≡ cell.Comp k second n → m.at ≡ k.at → reverse new ≡ pairs_from first.at second.at n ++ reverse old → CellStep c a.cell b.cell old new Same
 same_compounds c a b m k first second n old new left right ea eb e added =
     let pa : StandsBefore a.place.at (cell.Comp m first n) = subst (StandsBefore a.place.at) ea left.before in
     let pb : StandsBefore b.place.at (cell.Comp k second n) = subst (StandsBefore b.place.at) eb right.before in
     let la = left.place in
     let lb = right.place in
+    let pairs : List (Ref × Ref) = pairs_from first.at second.at n in
     record {
-      more = pairs_from first.at second.at n;
-      added = added;
-      places = ArePairsIn-pairs_from c.cells first.at second.at n (omega (arith, pa.1)) (omega (arith, pb.1));
-      smaller = rw ea (omega (arith, pairs_size-pairs_from c first.at second.at n));
+      more = reverse pairs;
+      added = from_reverse old new pairs added;
+      places = ArePairsIn-reverse c.cells pairs (ArePairsIn-pairs_from c.cells first.at second.at n (omega (arith, pa.1)) (omega (arith, pb.1)));
+      smaller = rw ea (omega (arith, pairs_size-reverse c pairs, pairs_size-pairs_from c first.at second.at n));
       same = λ names f.
           let r = Each-pairs_from f names c.cells first.at second.at n in
-          (λ h. r.0 (comp-args (rw (ea, eb) at h)), λ h. rw (ea, eb) (ap (λ x. Comp x (all_replaced f (args_at names c.cells first.at n))) (ap (name_at names) e) ∙ ap (Comp (name_at names k.at)) (r.1 h)));
+          let q = Each-reverse f names c.cells pairs in
+          (λ h. q.0 (r.0 (comp-args (rw (ea, eb) at h))), λ h. rw (ea, eb) (ap (λ x. Comp x (all_replaced f (args_at names c.cells first.at n))) (ap (name_at names) e) ∙ ap (Comp (name_at names k.at)) (r.1 (q.1 h))));
     }
 
 -- a compound's arguments are to be visited
@@ -258,29 +287,30 @@ visit_args c v end old new m first n h e added =
       same = λ names. rw e (occurs_each-places_from names c v first.at n);
     }
 
--- a variable that is looked for, or another one
-pub visit_variable : (c : Contents) (v : ℕ) (end : End) (w : ℕ) (work : List Ref) → IsStore c → IsEnd c end → end.cell ≡ cell.Var w → VisitStep c v end.cell work work (nat_eq w v)
-visit_variable c v end w work s h e = go (nat_eq w v) refl
+-- an unbound variable's cell shows that variable
+variable_shows : (names : List Name) (c : Contents) (end : End) (w : ℕ) → IsStore c → IsEnd c end → end.cell ≡ cell.Var w → seen_cell names c end.cell ≡ Var w
+variable_shows names c end w s h e = ap (seen_cell names c) e ∙ unbound w (subst_of names c) (unnamed names c.cells c.vars c.pairs w (s.chain names) free)
   where
     free : bound_in c.pairs w ≡ None
     free = let u = h.unbound in rw e at u
 
-    seen_as : (names : List Name) → seen_cell names c end.cell ≡ Var w
-    seen_as names = ap (seen_cell names c) e ∙ unbound w (subst_of names c) (unnamed names c.cells c.vars c.pairs w (s.chain names) free)
+-- another variable doesn't occur there
+pub other_variable : (c : Contents) (v : ℕ) (end : End) (w : ℕ) → IsStore c → IsEnd c end → end.cell ≡ cell.Var w → nat_eq w v ≡ false → (names : List Name) → occurs v (seen_cell names c end.cell) ≡ false
+other_variable c v end w s h e apart names = ap (occurs v) (variable_shows names c end w s h e) ∙ flip_eq w v apart
 
+-- a variable that is looked for, or another one
+pub visit_variable : (c : Contents) (v : ℕ) (end : End) (w : ℕ) (work : List Ref) → IsStore c → IsEnd c end → end.cell ≡ cell.Var w → VisitStep c v end.cell work work (nat_eq w v)
+visit_variable c v end w work s h e = go (nat_eq w v) refl
+  where
     go : (b : Bool) → nat_eq w v ≡ b → VisitStep c v end.cell work work b
-    go true same = λ names. ap (occurs v) (seen_as names) ∙ eq-eqb v w (sym (eqb-true w v same))
+    go true same = λ names. ap (occurs v) (variable_shows names c end w s h e) ∙ eq-eqb v w (sym (eqb-true w v same))
     go false apart = record {
       more = [];
       added = sym (append-nil work);
       places = tt;
       smaller = has_size (seen_cell [] c end.cell);
-      same = λ names. sym (ap (occurs v) (seen_as names) ∙ other (nat_eq v w) refl);
+      same = λ names. sym (other_variable c v end w s h e apart names);
     }
-      where
-        other : (b : Bool) → nat_eq v w ≡ b → nat_eq v w ≡ false
-        other false e' = e'
-        other true e' = let k : true ≡ false = sym (eq-eqb w v (sym (eqb-true v w e'))) ∙ apart in absurd (cc)
 
 -- what is no variable is older than any
 pub no_variable : (x : Cell) (v : ℕ) → ((w : ℕ) → x ≡ cell.Var w → ⊥) → rank x < v + 1

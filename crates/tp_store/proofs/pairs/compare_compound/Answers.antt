@@ -16,7 +16,7 @@ returns-then-name-second c = λ contents left right.
           clash_counts contents _ c.args.other.cell c.args.name c.in-Comp.second c.args.args.0 c.in-Comp.first c.args.args.1 c.in-Comp.count c.args.work.now.items refl c.in-Comp.is w.if-args-count.true
     ]
 
-pub returns-in_ok-push_pairs-in-Comp : goal.returns-in_ok-push_pairs-in-Comp
-returns-in_ok-push_pairs-in-Comp c = λ contents left right.
+pub returns-in_ok-push_rows-in-Comp : goal.returns-in_ok-push_rows-in-Comp
+returns-in_ok-push_rows-in-Comp c = λ contents left right.
     same_compounds contents _ c.args.other c.args.name c.in-Comp.second c.args.args.0 c.in-Comp.first c.in-Comp.count c.args.work.now.items _ left right
-    (ap (Comp c.args.name c.args.args.0) c.if-args-count.false) c.in-Comp.is c.if-name-second.false c.in_ok-push_pairs-in-Comp.ensures
+    (ap (Comp c.args.name c.args.args.0) c.if-args-count.false) c.in-Comp.is c.if-name-second.false c.in_ok-push_rows-in-Comp.ensures

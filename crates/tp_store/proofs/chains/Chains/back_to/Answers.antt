@@ -1,8 +1,9 @@
-use Rattle.std.proofs.Common.{refl, length, ap, sym, subst, ◌≤◌, arith}
+use Rattle.std.proofs.Common.{refl, length, [], ap, sym, subst, ◌≤◌, arith}
 use Rattle.std.proofs.lemmas.List.{length-take}
 use Rattle.tp_store.specs.Contents.{cut_to_mark}
 use Rattle.tp_store.specs.Chain.{contents_of, IsTable}
 use Rattle.tp_store.proofs.Substitution.Kept.{IsStore-cut, IsTable-cut, IsChains-of}
+use Rattle.tp_store.proofs.Substitution.Closed.{closed-take}
 use Rattle.tp_store.proofs.chains.Chains.back_to.Goals as goal
 
 pub returns-clause-chains : goal.returns-clause-chains
@@ -12,3 +13,4 @@ returns-clause-chains c =
     IsChains-of _ (cut_to_mark old c.args.mark) c.cut_to.ensures.items refl (let le : c.args.mark.vars ≤ length bound = c.requires.can.vars in omega (arith, ap length c.truncate.ensures.items, length-take c.args.mark.vars bound))
     (IsStore-cut old c.args.mark c.requires.chains.store c.requires.can)
     (subst (λ os. IsTable os old.pairs) (sym c.truncate.ensures.items) (IsTable-cut bound old.pairs c.args.mark.vars c.requires.chains.table c.requires.can.numbers))
+    (closed-take c.args.mark.cells old.cells c.args.mark.vars old.pairs c.args.self.now.closed ((IsStore-cut old c.args.mark c.requires.chains.store c.requires.can).chain []) c.requires.chains.closed)

@@ -8,6 +8,9 @@ use Rattle.tp_store.proofs.chains.Chains.bind.Goals as goal
 pub index_mut-requires : goal.index_mut-requires
 index_mut-requires c = let lt : c.args.number < length c.args.self.now.bound.items = (c.requires.adds []).claimed in omega arith
 
+pub closed_with-closed-requires-clause-place : goal.closed_with-closed-requires-clause-place
+closed_with-closed-requires-clause-place c = (c.requires.adds []).stands
+
 pub returns-clause-chains : goal.returns-clause-chains
 returns-clause-chains c =
     let old = contents_of c.args.self.now in
@@ -15,3 +18,4 @@ returns-clause-chains c =
     IsChains-of _ (with_pair old c.args.number c.args.place) refl (reverse-push c.args.self.now.pairs.items c.push.new.self.items (c.args.number, c.args.place) c.in_ok-push.ensures.items) (length-set bound c.args.number (Some c.args.place))
     (IsStore-pair old c.args.number c.args.place c.requires.chains.store c.requires.adds)
     (IsTable-pair bound old.pairs c.args.number c.args.place c.requires.chains.table (c.requires.adds []).claimed)
+    c.closed_with-closed.ensures

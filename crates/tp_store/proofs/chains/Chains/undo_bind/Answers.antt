@@ -5,6 +5,7 @@ use Rattle.tp_store.specs.Chain.{contents_of}
 use Rattle.tp_store.specs.Logged.{unbound, without_pair}
 use Rattle.tp_store.proofs.Substitution.Kept.{IsChains-of}
 use Rattle.tp_store.proofs.Substitution.Taken.{IsStore-unbound, IsTable-unbound, bound_claimed}
+use Rattle.tp_store.proofs.Substitution.Closed.{closed-without}
 use Rattle.tp_store.proofs.chains.Chains.undo_bind.Goals as goal
 
 pub index_mut-requires : goal.index_mut-requires
@@ -19,3 +20,4 @@ returns-clause-chains c =
     ∙ c.newest_of-at.ensures.removed ∙ ap (λ ps. without_pair c.args.number (reverse ps)) c.deref.ensures.value in
     IsChains-of _ (unbound c.args.number old) refl left (length-set bound c.args.number None) (IsStore-unbound c.args.number old c.requires.chains.store)
     (IsTable-unbound c.args.number old bound c.requires.chains.store c.requires.chains.table (bound_claimed c.args.number old c.requires.chains.store c.requires.bound))
+    (closed-without c.args.number old.cells old.pairs c.args.self.now.closed c.requires.chains.closed)

@@ -1,8 +1,8 @@
 use Rattle.std.proofs.Common.{◌≡◌, ◌+◌, ◌-◌, ◌++◌, refl, ap, ◌∙◌, arith, reverse}
 use Rattle.tp_store.specs.Work.{pairs_from}
-use Rattle.tp_store.proofs.Comparison.Ranked.{rows_pushed}
+use Rattle.tp_store.proofs.Unifier.Work.{rows_pushed}
 use Rattle.tp_store.proofs.Copies.Rows.{newest_first}
-use Rattle.tp_store.proofs.order.push_rows.Goals as goal
+use Rattle.tp_store.proofs.pairs.push_rows.Goals as goal
 
 pub rows-preserved : goal.rows-preserved
 rows-preserved c =

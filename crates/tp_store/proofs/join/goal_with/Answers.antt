@@ -1,0 +1,6 @@
+use Rattle.std.proofs.Common.{refl, arith}
+use Rattle.tp_store.proofs.Substitution.Closed.{IsChains-cut}
+use Rattle.tp_store.proofs.join.goal_with.Goals as goal
+
+pub returns-in-Err-clause-chains : goal.returns-in-Err-clause-chains
+returns-in-Err-clause-chains c = IsChains-cut c.args.chains.now c.push_joined.new.chains _ c.len-kept.result c.requires.chains c.in-Err.ensures.chains c.in-Err.ensures.adds (omega arith) c.cut_to.ensures.items refl refl refl

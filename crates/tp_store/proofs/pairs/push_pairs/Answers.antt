@@ -1,5 +1,0 @@
-use Rattle.tp_store.proofs.Unifier.Work.{pairs_pushed}
-use Rattle.tp_store.proofs.pairs.push_pairs.Goals as goal
-
-pub loop-k-preserved : goal.loop-k-preserved
-loop-k-preserved c = pairs_pushed c.args.work.now.items c.loop-k.work.items c.push.new.self.items c.args.left.at c.args.right.at c.loop-k.k c.loop-k.invariant c.in_ok-push.ensures.items
