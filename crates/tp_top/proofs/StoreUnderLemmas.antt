@@ -32,7 +32,7 @@ use Rattle.tp_report.specs.Worlds.{StandsFor}
 use Rattle.tp_engine.specs.Answers.{answer_in}
 use Rattle.tp_state.specs.Plain.{Plain, event_of, items_of, kind_of, process_of, with_running}
 use Rattle.tp_engine.specs.Told.{Snapshot, IsSound, world_in, seen_in}
-use Rattle.tp_top.specs.Told.{shown}
+use Rattle.tp_top.specs.Told.{lines_of}
 
 -- the term of a place with all bindings followed is the term that is seen in the store
 pub under-seen : (names : List Name) (c : Contents) → IsStore c → Fits c.pairs c.cells → (at : ℕ) → under names c.pairs c.cells at ≡ seen names c at
@@ -105,7 +105,7 @@ stands-for s processes ops sound same = record {
 }
 
 -- the lines of an answer are those of the engine's world
-pub answer-shown : (s : Snapshot) (ops : Entries) (table : List Name) (store : Contents) (cells : List Cell) (processes : List AtomId) (events : List Event) (clock : ℤ) (number steps : ℕ) (named : List Named) (lines : List ℕ) → IsSound s → table ≡ s.names → store ≡ s.plain.store → cells ≡ s.plain.store.cells → AreProcesses s processes → events ≡ s.plain.events → clock ≡ s.plain.clock → number ≡ s.number → steps ≡ s.steps → named ≡ s.named → ops ≡ s.ops → ((w : World) → StandsFor (in_scene table store.pairs cells processes ops) events clock w → lines ≡ world_answer_text (table_of ops) named number w steps) → lines ≡ shown (answer_in s)
+pub answer-shown : (s : Snapshot) (ops : Entries) (table : List Name) (store : Contents) (cells : List Cell) (processes : List AtomId) (events : List Event) (clock : ℤ) (number steps : ℕ) (named : List Named) (lines : List ℕ) → IsSound s → table ≡ s.names → store ≡ s.plain.store → cells ≡ s.plain.store.cells → AreProcesses s processes → events ≡ s.plain.events → clock ≡ s.plain.clock → number ≡ s.number → steps ≡ s.steps → named ≡ s.named → ops ≡ s.ops → ((w : World) → StandsFor (in_scene table store.pairs cells processes ops) events clock w → lines ≡ world_answer_text (table_of ops) named number w steps) → lines ≡ lines_of (answer_in s)
 answer-shown s ops table store cells processes events clock number steps named lines sound t st ce same ev cl nu sp na op told =
     let w = world_in s in
     told w

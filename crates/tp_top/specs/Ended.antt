@@ -1,9 +1,11 @@
 -- What a run does, with every shelf and every sink.
-use Rattle.std.specs.Prelude.{◌≡◌, ℕ, List, Option, Some, None}
+use Rattle.std.specs.Prelude.{◌≡◌, ℕ, Bool, true, false, List, Option, Some, None}
 use Rattle.std.specs.Prelude.{MatchOption, IsSome, IsSomeAnd, ◌⊎◌, ◌↔◌}
 use Rattle.tp_outside.specs.Count.{Rose}
 use Rattle.tp_outside.specs.Files.{Files, held_under}
 use Rattle.tp_outside.specs.Taken.{added, HasPrefix}
+use Rattle.tp_meters.specs.declared.MeterKind.{MeterKind}
+use Rattle.tp_top.specs.Metered.{numbers_over}
 use Rattle.tp_top.specs.Written.{HasLess}
 use Rattle.tp_top.specs.declared.program.Status.{Status}
 use Rattle.tp_top.specs.declared.program.Status.TheVariants.{Found, No, Raised}
@@ -25,7 +27,8 @@ number_of Write = 8
 number_of Memory = 9
 
 -- What a run is about: what the shelf tells, the words, the counts of faults of reading and of
--- writing before and after, and what the sink tells before and after.
+-- writing before and after, what the sink tells before and after, the kinds of the meters, and the
+-- numbers that they hold before and after.
 pub record Run : Type 0 where
   pub held : Option Files
   pub words : List (List ℕ)
@@ -35,19 +38,23 @@ pub record Run : Type 0 where
   pub writes_after : ℕ
   pub taken_before : Option (List ℕ)
   pub taken_after : Option (List ℕ)
+  pub kinds : List MeterKind
+  pub numbers_before : List (List ℕ)
+  pub numbers_after : List (List ℕ)
 
 -- ---- what is expected
 
 -- the words are no request, or there is a model's text whose answer is expected
-abbrev pub OfSomeText : Option Request → (Option Answer → Type 0) → Type 0
-OfSomeText None P = P (Some usage)
-OfSomeText (Some r) P = (text : List ℕ) × P (Some (for_text text r))
+abbrev pub OfSomeText : List MeterKind → Option Request → (Option Answer → Type 0) → Type 0
+OfSomeText kinds None P = P (Some usage)
+OfSomeText kinds (Some r) P = (text : List ℕ) × P (Some (for_text kinds text r))
 
--- What holds of the expected answer. Where the shelf doesn't tell its files, it is the answer for
--- the text of some model.
-abbrev pub OfExpected : List (List ℕ) → Option Files → (Option Answer → Type 0) → Type 0
-OfExpected words None P = OfSomeText (request words) P
-OfExpected words (Some files) P = P (expected words files)
+-- What holds of the expected answer, with meters of these kinds. Where the shelf doesn't tell its
+-- files, it is the answer for the text of some model.
+abbrev pub OfExpected :
+    List MeterKind → List (List ℕ) → Option Files → (Option Answer → Type 0) → Type 0
+OfExpected kinds words None P = OfSomeText kinds (request words) P
+OfExpected kinds words (Some files) P = P (expected kinds words files)
 
 -- a status that is none of a read fault, a write fault and want of memory
 abbrev pub IsPlain : Status → Type 0
@@ -104,7 +111,7 @@ WrotePart run (Some answer) = HasPrefix run.taken_before run.taken_after answer.
 -- a prefix of the expected text was added, or of the line of a model that couldn't be read
 abbrev pub IsCutShort : Run → Type 0
 IsCutShort run =
-    OfExpected run.words run.held (WrotePart run)
+    OfExpected run.kinds run.words run.held (WrotePart run)
     ⊎ (CouldNotRead run × HasPrefix run.taken_before run.taken_after read_fault)
 
 -- a part of the expected text was added and not all of it, and nothing where there is no answer
@@ -114,7 +121,7 @@ WroteLess run (Some answer) = HasLess run.taken_before run.taken_after answer.1
 
 -- the same of what is expected
 abbrev pub IsUnfinished : Run → Type 0
-IsUnfinished run = OfExpected run.words run.held (WroteLess run)
+IsUnfinished run = OfExpected run.kinds run.words run.held (WroteLess run)
 
 -- the expected answer, whole
 abbrev pub GaveAnswer : Run → Status → Answer → Type 0
@@ -133,13 +140,46 @@ abbrev pub GaveAll : Run → Status → Option Answer → Type 0
 GaveAll run status None = GaveReadFault run status
 GaveAll run status (Some answer) = GaveAnswer run status answer
 
+-- ---- meters
+
+-- whether the words are a request that asks for meters
+abbrev pub asks_meters : Option Request → Bool
+asks_meters None = false
+asks_meters (Some r) = r.meters
+
+-- the numbers of the meters stay
+abbrev pub KeptNumbers : Run → Type 0
+KeptNumbers run = run.numbers_after ≡ run.numbers_before
+
+-- The expected answer was given, whole. Each meter holds the numbers over the history of its last
+-- answer, and the numbers stay where none was printed.
+abbrev pub GaveCounted : Run → Status → Answer → Type 0
+GaveCounted run status answer =
+    GaveAnswer run status answer
+    × (run.numbers_after ≡ numbers_over run.kinds answer.2 run.numbers_before)
+
+abbrev pub CountedExpected : Run → Status → Option Answer → Type 0
+CountedExpected run status answer = IsSomeAnd answer (GaveCounted run status)
+
+-- What becomes of the numbers of the meters.
+pub record Metered (run : Run) (status : Status) : Type 0 where
+  -- Where the words ask for meters, and the status is no read fault, write fault or want of memory,
+  -- they hold the numbers over the history of the last answer that was printed, if one was.
+  pub counted :
+      asks_meters (request run.words) ≡ true → IsPlain status →
+      OfExpected run.kinds run.words run.held (CountedExpected run status)
+  -- Where the model couldn't be read they stay.
+  pub unread : status ≡ Read → KeptNumbers run
+  -- Where the words don't ask for meters they stay.
+  pub unasked : asks_meters (request run.words) ≡ false → KeptNumbers run
+
 -- ---- the whole clause
 
 -- A run ends with a status:
 pub record Ended (run : Run) (status : Status) : Type 0 where
   -- Where it is no read fault, write fault or want of memory, an answer is expected, and it was
   -- given, whole.
-  pub plain : IsPlain status → OfExpected run.words run.held (GaveExpected run status)
+  pub plain : IsPlain status → OfExpected run.kinds run.words run.held (GaveExpected run status)
   -- Where it is a read fault, the words are a request, the count of faults of reading rose or the
   -- model isn't held, and the line of a read fault was written.
   pub read : status ≡ Read → CouldNotRead run × Wrote run read_fault
@@ -159,4 +199,7 @@ pub record Ended (run : Run) (status : Status) : Type 0 where
   -- fault where none is expected, or memory was refused.
   pub complete :
       ¬ Rose run.reads_before run.reads_after → ¬ Rose run.writes_before run.writes_after →
-      OfExpected run.words run.held (λ answer. GaveAll run status answer ⊎ (status ≡ Memory))
+      OfExpected run.kinds run.words run.held
+      (λ answer. GaveAll run status answer ⊎ (status ≡ Memory))
+  -- The meters hold their numbers of the last answer that was printed.
+  pub meters : Metered run status

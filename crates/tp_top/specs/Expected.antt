@@ -17,9 +17,12 @@ use Rattle.tp_clauses.specs.Goal as goal
 use Rattle.tp_clauses.specs.Goal.{goal_of}
 use Rattle.tp_clauses.specs.declared.fault.Cause.{Cause}
 use Rattle.tp_clauses.specs.declared.fault.Cause.TheVariants as cause
+use Rattle.tp_meters.specs.declared.MeterKind.{MeterKind}
 use Rattle.tp_report.specs.Report.{line}
 use Rattle.tp_top.specs.declared.program.Status.{Status}
 use Rattle.tp_top.specs.declared.program.Status.TheVariants as status
+use Rattle.tp_top.specs.Metered.{printed_kinds}
+pub use Rattle.tp_top.specs.Report.{Answer}
 use Rattle.tp_top.specs.Report.{report}
 
 -- ---- the words
@@ -49,18 +52,18 @@ request words = option_map asked (clap.request words)
 
 -- ---- refusals
 
--- a status, and what is printed
-abbrev pub Answer : Type 0
-Answer = Status × List ℕ
+-- a status with a text that prints no answer
+abbrev pub alone : Status → List ℕ → Answer
+alone s text = (s, text, None)
 
 abbrev pub usage : Answer
-usage = (status.Usage, line (codes "usage: tprolog MODEL GOAL [options]"))
+usage = alone status.Usage (line (codes "usage: tprolog MODEL GOAL [options]"))
 
 abbrev pub read_fault : List ℕ
 read_fault = line (codes "read fault")
 
 abbrev pub too_long : Answer
-too_long = (status.Model, line (codes "model refused: more than 16777216 bytes"))
+too_long = alone status.Model (line (codes "model refused: more than 16777216 bytes"))
 
 -- the word for a cause
 abbrev pub cause_word : Cause → List ℕ
@@ -80,22 +83,20 @@ cause_word cause.Many = codes "Many"
 
 -- a clause of the model was refused, from this byte of it on
 abbrev pub model_refused : Refusal → Answer
-model_refused r = (
-  status.Model,
-  line (codes "model refused: clause "
-      ++ (decimal r.clause
-      ++ (codes " byte "
-      ++ (decimal r.byte
-      ++ (codes " cause "
-      ++ cause_word r.cause))))),
-)
+model_refused r = alone
+    status.Model
+    (line (codes "model refused: clause "
+    ++ (decimal r.clause
+    ++ (codes " byte "
+    ++ (decimal r.byte
+    ++ (codes " cause "
+    ++ cause_word r.cause))))))
 
 -- the goal was refused, from this byte on
 abbrev pub goal_refused : goal.Refusal → Answer
-goal_refused r = (
-  status.Goal,
-  line (codes "goal refused: byte " ++ (decimal r.0 ++ (codes " cause " ++ cause_word r.1))),
-)
+goal_refused r = alone
+    status.Goal
+    (line (codes "goal refused: byte " ++ (decimal r.0 ++ (codes " cause " ++ cause_word r.1))))
 
 -- ---- the answer
 
@@ -107,30 +108,35 @@ found m f steps answers = search m.clauses f.term f.vars steps answers
 abbrev pub named_in : List (Name × ℕ) → List Named
 named_in = map (λ n. record { name = n.0; number = n.1 })
 
--- the answer to a goal or to its refusal
-abbrev pub for_found : Model → Result Found goal.Refusal → Request → Answer
-for_found m (Err refusal) r = goal_refused refusal
-for_found m (Ok f) r = report m.table (named_in f.named) (found m f r.steps r.answers)
+-- The answer to a goal or to its refusal. The meters have these kinds, and their lines are printed
+-- where the request asks for meters.
+abbrev pub for_found : List MeterKind → Model → Result Found goal.Refusal → Request → Answer
+for_found kinds m (Err refusal) r = goal_refused refusal
+for_found kinds m (Ok f) r =
+    report m.table (named_in f.named) (printed_kinds r.meters kinds) (found m f r.steps r.answers)
 
 -- the goal is read by the last table of operators of the model
-abbrev pub for_goal : Model → Request → Answer
-for_goal m r = for_found m (goal_of m.table r.goal) r
+abbrev pub for_goal : List MeterKind → Model → Request → Answer
+for_goal kinds m r = for_found kinds m (goal_of m.table r.goal) r
 
-abbrev pub for_model : Result Model Refusal → Request → Answer
-for_model (Err refusal) r = model_refused refusal
-for_model (Ok m) r = for_goal m r
+abbrev pub for_model : List MeterKind → Result Model Refusal → Request → Answer
+for_model kinds (Err refusal) r = model_refused refusal
+for_model kinds (Ok m) r = for_goal kinds m r
 
 -- the answer of a request for the text of a model
-unfoldable pub for_text : List ℕ → Request → Answer
-for_text text r = if nat_lt 16777216 (length text) then too_long else for_model (model text) r
+unfoldable pub for_text : List MeterKind → List ℕ → Request → Answer
+for_text kinds text r =
+    if nat_lt 16777216 (length text) then too_long else for_model kinds (model text) r
 
-abbrev pub for_held : Option (List ℕ) → Request → Option Answer
-for_held None r = None
-for_held (Some text) r = Some (for_text text r)
+abbrev pub for_held : List MeterKind → Option (List ℕ) → Request → Option Answer
+for_held kinds None r = None
+for_held kinds (Some text) r = Some (for_text kinds text r)
 
 -- the answer of a request over files, none where the model isn't held
-abbrev pub expected_of : Request → Files → Option Answer
-expected_of r files = for_held (held_under files r.model) r
+abbrev pub expected_of : List MeterKind → Request → Files → Option Answer
+expected_of kinds r files = for_held kinds (held_under files r.model) r
 
-abbrev pub expected : List (List ℕ) → Files → Option Answer
-expected words files = elim (request words) [ None ↦ Some usage | Some r ↦ expected_of r files ]
+-- the answer to words over files, with meters of these kinds
+abbrev pub expected : List MeterKind → List (List ℕ) → Files → Option Answer
+expected kinds words files =
+    elim (request words) [ None ↦ Some usage | Some r ↦ expected_of kinds r files ]

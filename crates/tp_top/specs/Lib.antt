@@ -1,3 +1,4 @@
+pub mod Metered
 pub mod Report
 pub mod Expected
 pub mod Written

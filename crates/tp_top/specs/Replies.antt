@@ -5,16 +5,16 @@ use Rattle.tp_top.specs.declared.report.Reply.{Reply}
 use Rattle.tp_top.specs.declared.report.Wording.{Wording}
 use Rattle.tp_top.specs.declared.report.Wording.TheVariants.{Fixed, Made}
 use Rattle.tp_top.specs.Report.{Counts}
-use Rattle.tp_top.specs.Expected.{Answer}
+use Rattle.tp_top.specs.Expected.{Answer, alone}
 
 -- the bytes of a text
 abbrev pub bytes_of : Wording → List ℕ
 bytes_of (Fixed text) = text.now
 bytes_of (Made text) = string_bytes text
 
--- the status and the bytes of a reply
+-- the status and the bytes of a reply, which prints no answer
 abbrev pub view_of : Reply → Answer
-view_of reply = (reply.status, bytes_of reply.text)
+view_of reply = alone reply.status (bytes_of reply.text)
 
 -- the counts of a search that ended
 abbrev pub counts_in : Ended → Counts

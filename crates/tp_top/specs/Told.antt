@@ -11,9 +11,14 @@ use Rattle.tp_clauses.specs.Goal.{with_body}
 use Rattle.tp_clauses.specs.Model.{Model}
 use Rattle.tp_machine.specs.Program.{goal_term}
 use Rattle.tp_engine.specs.Answers as engine
+use Rattle.tp_engine.specs.Ended.{outcome_of}
+use Rattle.tp_engine.specs.Told.{Told}
+use Rattle.tp_meters.specs.declared.MeterKind.{MeterKind}
 use Rattle.tp_report.specs.Report.{world_answer_text}
 use Rattle.tp_top.specs.declared.asked.Asked.{Asked}
 use Rattle.tp_top.specs.Expected.{Answer, Request, for_found}
+use Rattle.tp_top.specs.Metered.{meter_lines}
+use Rattle.tp_top.specs.Report.{report}
 
 -- the model that a store has, by these names
 abbrev pub model_in : List Name → Contents → Model
@@ -30,8 +35,8 @@ found_in names t = record {
 }
 
 -- the answer to a goal that was read, which may have no body
-abbrev pub for_read : Model → Found → Request → Answer
-for_read m f r = for_found m (with_body f (body f.term)) r
+abbrev pub for_read : List MeterKind → Model → Found → Request → Answer
+for_read kinds m f r = for_found kinds m (with_body f (body f.term)) r
 
 -- a request whose texts are lent
 abbrev pub request_in : Asked → Request
@@ -44,10 +49,19 @@ request_in a = record {
 }
 
 -- the lines of an answer
-abbrev pub shown : engine.Answer → List ℕ
-shown a = world_answer_text (table_of a.ops) a.named a.number a.world a.steps
+abbrev pub lines_of : engine.Answer → List ℕ
+lines_of a = world_answer_text (table_of a.ops) a.named a.number a.world a.steps
+
+-- the same, and behind them those of meters of these kinds over its history
+abbrev pub shown : List MeterKind → engine.Answer → List ℕ
+shown kinds a = lines_of a ++ meter_lines kinds a.world.history
 
 -- the bytes of the lines of answers
-abbrev pub shown_bytes : List engine.Answer → List ℕ
-shown_bytes [] = []
-shown_bytes (a ∷ answers) = encode_utf8_all (shown a) ++ shown_bytes answers
+abbrev pub shown_bytes : List MeterKind → List engine.Answer → List ℕ
+shown_bytes kinds [] = []
+shown_bytes kinds (a ∷ answers) = encode_utf8_all (shown kinds a) ++ shown_bytes kinds answers
+
+-- what is printed of a search from an engine's world, with the lines of meters of these kinds
+abbrev pub report_in : List MeterKind → Told → ℕ → ℕ → Answer
+report_in kinds t steps answers =
+    report (table_of t.seen.ops) t.seen.named kinds (outcome_of t steps answers)

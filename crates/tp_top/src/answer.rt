@@ -3,18 +3,20 @@
 ghost use Rattle.std.specs.Prelude.{◌≡◌, ◌<◌, ◌≤◌, length, Err, IfErr, IfOk, OnOk};
 ghost use Rattle.tp_outside.specs.Taken.{added};
 ghost use Rattle.tp_terms.specs.Shown.{AreNamed};
-ghost use Rattle.tp_parse.specs.Ops.{table_of};
 ghost use Rattle.tp_engine.specs.Ended.{answers_of, outcome_of, Finds};
 ghost use Rattle.tp_machine.specs.Program.{GoalFits};
 ghost use Rattle.tp_engine.specs.Told.{IsSame, MayRun};
 ghost use Rattle.tp_engine.specs.declared.phase.Phase.{Phase};
 ghost use Rattle.tp_top.specs.Expected.{for_goal, for_text};
-ghost use Rattle.tp_top.specs.Report.{report as report_of};
-ghost use Rattle.tp_top.specs.Told.{for_read, found_in, model_in, request_in, shown_bytes};
+ghost use Rattle.tp_top.specs.Metered.{MayCount, printed_kinds};
+ghost use Rattle.tp_top.specs.Report.{last_history};
+ghost use Rattle.tp_top.specs.Told.{for_read, found_in, model_in, report_in, request_in};
+ghost use Rattle.tp_top.specs.Told.{shown_bytes};
 ghost use Rattle.tp_top.specs.Written.{Writes};
 
 use crate::asked::Asked;
 use crate::lines::Printer;
+use crate::meters::Counting;
 use crate::program::Status;
 use crate::refusal::{cause_of, goal_refused, model_refused};
 use crate::report::{report, say_made};
@@ -26,25 +28,32 @@ use tp_parse::{ReadFault, ReadTerm, read_goal};
 use tp_terms::Atoms;
 
 /// Searches from the start that an engine stands at, and writes each answer when it is found.
-fn print_answers<W: Sink>(
+fn print_answers<W: Sink, M: Counting>(
     engine: &mut Engine<'_>,
     steps: u64,
     answers: u64,
-    printer: &mut Printer<'_, W>,
+    printer: &mut Printer<'_, W, M>,
 ) -> Result<Ended, AnswerFault>
     requires run { MayRun engine.old.phase }
     requires answers { 0 < answers }
     ensures same_sink { printer.new.sink.ghost_name ≡ printer.old.sink.ghost_name }
+    ensures same_meters { printer.new.meters.ghost_name ≡ printer.old.meters.ghost_name }
     ensures never_falls { W.faults printer.old.sink.now ≤ W.faults printer.new.sink.now }
     ensures wrote { OnOk result
         ((W.faults printer.new.sink.now ≡ W.faults printer.old.sink.now)
         × (W.taken printer.new.sink.now ≡ added (W.taken printer.old.sink.now)
-        (shown_bytes (answers_of engine.old steps answers)))) }
-    ensures cut { IfErr result (λ fault.
-        Writes (report_of (table_of engine.old.seen.ops) engine.old.seen.named
-        (outcome_of engine.old steps answers))
+        (shown_bytes (printed_kinds printer.old.metered (M.kinds printer.old.meters.now))
+        (answers_of engine.old steps answers)))) }
+    ensures cut { IfErr result (λ fault. Writes
+        (report_in (printed_kinds printer.old.metered (M.kinds printer.old.meters.now))
+        engine.old steps answers)
         (W.faults printer.old.sink.now) (W.faults printer.new.sink.now)
         (W.taken printer.old.sink.now) (W.taken printer.new.sink.now) (Err fault)) }
+    ensures kinds { M.kinds printer.new.meters.now ≡ M.kinds printer.old.meters.now }
+    ensures counted { MayCount result printer.old.metered
+        (M.kinds printer.old.meters.now)
+        (last_history (outcome_of engine.old steps answers).answers)
+        (M.numbers printer.old.meters.now) (M.numbers printer.new.meters.now) }
     ensures found { IfOk result (Finds (outcome_of engine.old steps answers) engine.new) }
     ensures same { IsSame engine.old engine.new }
     ensures phase { OnOk result (engine.new.phase ≡ Phase.Ran) }
@@ -54,20 +63,27 @@ fn print_answers<W: Sink>(
 
 /// Searches from the start that an engine stands at, and writes each answer when it is found, and
 /// then the last line.
-fn print_all<W: Sink>(
+fn print_all<W: Sink, M: Counting>(
     engine: &mut Engine<'_>,
     steps: u64,
     answers: u64,
-    printer: &mut Printer<'_, W>,
+    printer: &mut Printer<'_, W, M>,
 ) -> Result<Status, AnswerFault>
     requires run { MayRun engine.old.phase }
     requires answers { 0 < answers }
     ensures same_sink { printer.new.sink.ghost_name ≡ printer.old.sink.ghost_name }
+    ensures same_meters { printer.new.meters.ghost_name ≡ printer.old.meters.ghost_name }
     ensures never_falls { W.faults printer.old.sink.now ≤ W.faults printer.new.sink.now }
-    ensures wrote { Writes (report_of (table_of engine.old.seen.ops) engine.old.seen.named
-        (outcome_of engine.old steps answers))
+    ensures wrote { Writes
+        (report_in (printed_kinds printer.old.metered (M.kinds printer.old.meters.now))
+        engine.old steps answers)
         (W.faults printer.old.sink.now) (W.faults printer.new.sink.now)
         (W.taken printer.old.sink.now) (W.taken printer.new.sink.now) result }
+    ensures kinds { M.kinds printer.new.meters.now ≡ M.kinds printer.old.meters.now }
+    ensures counted { MayCount result printer.old.metered
+        (M.kinds printer.old.meters.now)
+        (last_history (outcome_of engine.old steps answers).answers)
+        (M.numbers printer.old.meters.now) (M.numbers printer.new.meters.now) }
 {
     match print_answers(engine, steps, answers, printer) {
         Ok(ended) => {
@@ -78,65 +94,89 @@ fn print_all<W: Sink>(
     }
 }
 
-/// The same over a sink.
-fn search<W: Sink>(
+/// The same over a sink and meters, for what a request asks.
+fn search<W: Sink, M: Counting>(
     alloc: Global,
     engine: &mut Engine<'_>,
-    steps: u64,
-    answers: u64,
+    asked: Asked<'_>,
     sink: &mut W,
+    meters: &mut M,
 ) -> Result<Status, AnswerFault>
     requires run { MayRun engine.old.phase }
-    requires answers { 0 < answers }
+    requires answers { 0 < asked.answers }
     ensures never_falls { W.faults sink.old ≤ W.faults sink.new }
-    ensures wrote { Writes (report_of (table_of engine.old.seen.ops) engine.old.seen.named
-        (outcome_of engine.old steps answers))
+    ensures wrote { Writes
+        (report_in (printed_kinds asked.entry.meters (M.kinds meters.old))
+        engine.old asked.entry.steps asked.entry.answers)
         (W.faults sink.old) (W.faults sink.new) (W.taken sink.old) (W.taken sink.new) result }
+    ensures kinds { M.kinds meters.new ≡ M.kinds meters.old }
+    ensures counted { MayCount result asked.entry.meters (M.kinds meters.old)
+        (last_history (outcome_of engine.old asked.entry.steps asked.entry.answers).answers)
+        (M.numbers meters.old) (M.numbers meters.new) }
 {
-    let mut printer = Printer { alloc, sink };
-    print_all(engine, steps, answers, &mut printer)
+    let mut printer = Printer {
+        alloc,
+        sink,
+        meters,
+        metered: asked.meters,
+    };
+    print_all(engine, asked.steps, asked.answers, &mut printer)
 }
 
 /// Answers a goal that was read, over a base.
-fn answer_read<W: Sink>(
+fn answer_read<W: Sink, M: Counting>(
     alloc: Global,
     base: &Base,
     atoms: Atoms,
     goal: &ReadTerm,
     asked: Asked<'_>,
     sink: &mut W,
+    meters: &mut M,
 ) -> Result<Status, AnswerFault>
     requires base { AreNamed (length atoms) base.now.cells }
     requires goal { GoalFits atoms goal.now }
     requires answers { 0 < asked.answers }
     ensures never_falls { W.faults sink.old ≤ W.faults sink.new }
     ensures wrote { Writes
-        (for_read (model_in atoms base.now) (found_in atoms goal.now) (request_in asked.entry))
+        (for_read (M.kinds meters.old) (model_in atoms base.now) (found_in atoms goal.now)
+        (request_in asked.entry))
         (W.faults sink.old) (W.faults sink.new) (W.taken sink.old) (W.taken sink.new) result }
+    ensures kinds { M.kinds meters.new ≡ M.kinds meters.old }
+    ensures counted { MayCount result asked.entry.meters (M.kinds meters.old)
+        (for_read (M.kinds meters.old) (model_in atoms base.now) (found_in atoms goal.now)
+        (request_in asked.entry)).2
+        (M.numbers meters.old) (M.numbers meters.new) }
 {
     match Engine::new(alloc, base, atoms, goal) {
-        Ok(mut engine) => search(alloc, &mut engine, asked.steps, asked.answers, sink),
+        Ok(mut engine) => search(alloc, &mut engine, asked, sink, meters),
         Err(StartFault::Body) => say_made(sink, goal_refused(alloc, goal.from, Cause::Body)),
         Err(StartFault::NoMemory) => Err(AnswerFault::NoMemory),
     }
 }
 
 /// Answers the text of a goal, over a base.
-fn answer_goal<W: Sink>(
+fn answer_goal<W: Sink, M: Counting>(
     alloc: Global,
     base: &Base,
     mut atoms: Atoms,
     asked: Asked<'_>,
     sink: &mut W,
+    meters: &mut M,
 ) -> Result<Status, AnswerFault>
     requires base { AreNamed (length atoms) base.now.cells }
     requires answers { 0 < asked.answers }
     ensures never_falls { W.faults sink.old ≤ W.faults sink.new }
-    ensures wrote { Writes (for_goal (model_in atoms base.now) (request_in asked.entry))
+    ensures wrote { Writes
+        (for_goal (M.kinds meters.old) (model_in atoms base.now) (request_in asked.entry))
         (W.faults sink.old) (W.faults sink.new) (W.taken sink.old) (W.taken sink.new) result }
+    ensures kinds { M.kinds meters.new ≡ M.kinds meters.old }
+    ensures counted { MayCount result asked.entry.meters (M.kinds meters.old)
+        (for_goal (M.kinds meters.old) (model_in atoms base.now)
+        (request_in asked.entry)).2
+        (M.numbers meters.old) (M.numbers meters.new) }
 {
     match read_goal(alloc, asked.goal, base.ops(), &mut atoms) {
-        Ok(term) => answer_read(alloc, base, atoms, &term, asked, sink),
+        Ok(term) => answer_read(alloc, base, atoms, &term, asked, sink, meters),
         Err(ReadFault::Refused { byte, cause }) => {
             say_made(sink, goal_refused(alloc, byte, cause_of(cause)))
         }
@@ -145,28 +185,35 @@ fn answer_goal<W: Sink>(
 }
 
 /// Answers the text of a model and of a goal: writes the text that goes with a status, and gives
-/// the status. Each answer is written when it is found.
+/// the status. Each answer is written when it is found. Where meters are asked for, they count the
+/// history of each answer, and their lines stand behind its own.
 ///
 /// # Errors
 /// `Write` where a write failed, behind a prefix of the text. `NoMemory` where memory was refused
 /// before all of it was written.
-pub fn answer<W: Sink>(
+pub fn answer<W: Sink, M: Counting>(
     alloc: Global,
     text: &[u8],
     asked: Asked<'_>,
     sink: &mut W,
+    meters: &mut M,
 ) -> Result<Status, AnswerFault>
     requires text { length text.now ≤ LONGEST_TEXT }
     requires answers { 0 < asked.answers }
     ensures never_falls { W.faults sink.old ≤ W.faults sink.new }
-    ensures wrote { Writes (for_text text.now (request_in asked.entry))
+    ensures wrote { Writes
+        (for_text (M.kinds meters.old) text.now (request_in asked.entry))
         (W.faults sink.old) (W.faults sink.new) (W.taken sink.old) (W.taken sink.new) result }
+    ensures kinds { M.kinds meters.new ≡ M.kinds meters.old }
+    ensures counted { MayCount result asked.entry.meters (M.kinds meters.old)
+        (for_text (M.kinds meters.old) text.now (request_in asked.entry)).2
+        (M.numbers meters.old) (M.numbers meters.new) }
 {
     let Ok(mut atoms) = Atoms::start(alloc) else {
         return Err(AnswerFault::NoMemory);
     };
     match Base::load(alloc, text, &mut atoms) {
-        Ok(base) => answer_goal(alloc, &base, atoms, asked, sink),
+        Ok(base) => answer_goal(alloc, &base, atoms, asked, sink, meters),
         Err(
             LoadFault::Refused {
                 clause,

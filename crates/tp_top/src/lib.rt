@@ -3,7 +3,9 @@
 
 mod answer;
 mod asked;
+mod boxed;
 mod lines;
+mod meters;
 mod program;
 mod refusal;
 mod report;

@@ -1,6 +1,6 @@
 //! The whole program as one call.
 
-ghost use Rattle.std.specs.Prelude.{◌≡◌, ◌+◌, ◌<◌, ◌≤◌, ℕ, List, Some};
+ghost use Rattle.std.specs.Prelude.{◌≡◌, ◌+◌, ◌<◌, ◌≤◌, ℕ, List, map, Some};
 ghost use Rattle.tp_words.specs.Command.{words_of};
 ghost use Rattle.tp_top.specs.Ended.{number_of, Ended};
 ghost use Rattle.tp_top.specs.Expected.{request};
@@ -12,10 +12,12 @@ mod tests;
 
 use crate::answer::answer;
 use crate::asked::Asked;
+use crate::meters::Counting;
 use crate::refusal::{too_long, unread, usage};
 use crate::report::say;
 use std::alloc::Global;
 use tp_engine::AnswerFault;
+use tp_meters::Meter;
 use tp_outside::{LONGEST_TEXT, ReadError, Shelf, Sink, read_all};
 use tp_words::{WordsFault, read_words};
 
@@ -65,17 +67,19 @@ fn status_of(written: Result<Status, AnswerFault>) -> Status
 }
 
 /// Reads the model of a request, and answers its goal.
-fn perform<S: Shelf, W: Sink>(
+fn perform<S: Shelf, W: Sink, M: Counting>(
     alloc: Global,
     asked: Asked<'_>,
     shelf: &mut S,
     sink: &mut W,
+    meters: &mut M,
 ) -> Status
     requires answers { 0 < asked.answers }
     ensures held_stays { S.held shelf.new ≡ S.held shelf.old }
     ensures reads_never_fall { S.faults shelf.old ≤ S.faults shelf.new }
     ensures read_once { S.given shelf.new ≤ S.given shelf.old + (LONGEST_TEXT + 1) }
     ensures writes_never_fall { W.faults sink.old ≤ W.faults sink.new }
+    ensures kinds { M.kinds meters.new ≡ M.kinds meters.old }
     ensures ended { (words : List (List ℕ)) → request words ≡ Some (request_in asked.entry) →
         Ended (record {
           held = S.held shelf.old;
@@ -86,32 +90,42 @@ fn perform<S: Shelf, W: Sink>(
           writes_after = W.faults sink.new;
           taken_before = W.taken sink.old;
           taken_after = W.taken sink.new;
+          kinds = M.kinds meters.old;
+          numbers_before = M.numbers meters.old;
+          numbers_after = M.numbers meters.new;
         }) result }
 {
     match read_all(alloc, shelf, asked.model) {
-        Ok(text) => status_of(answer(alloc, &text, asked, sink)),
+        Ok(text) => status_of(answer(alloc, &text, asked, sink, meters)),
         Err(ReadError::Fault) => status_of(say(sink, &unread())),
         Err(ReadError::TooLong) => status_of(say(sink, &too_long())),
         Err(ReadError::NoMemory) => Status::Memory,
     }
 }
 
-/// Does all that the program does with the words behind its name: a model's name, a goal, and the
-/// options `--steps N` and `--answers N`.
+/// Does all that the program does with the words behind its name: a model's name, a goal, the
+/// options `--steps N` and `--answers N`, and the flag `--meters`.
 ///
 /// The model is read from the shelf, the goal is searched for so many answers with at most so many
 /// steps, and what was found, or why there was nothing to find, is written to the sink, each answer
 /// when it is found. Nothing is left for the caller to print.
+///
+/// With `--meters` each meter of the list counts the history of each answer that is printed, and
+/// that alone, and a line for each stands behind the answer's own. Afterwards they hold their
+/// numbers of the last answer, unless a write failed or memory was refused. The list belongs to the
+/// caller. Its length and the kinds never change, and without `--meters` the numbers stay.
 pub fn run<S: Shelf, W: Sink>(
     alloc: Global,
     words: &[String],
     shelf: &mut S,
     sink: &mut W,
+    meters: &mut Vec<Box<dyn Meter>>,
 ) -> Status
     ensures held_stays { S.held shelf.new ≡ S.held shelf.old }
     ensures reads_never_fall { S.faults shelf.old ≤ S.faults shelf.new }
     ensures read_once { S.given shelf.new ≤ S.given shelf.old + (LONGEST_TEXT + 1) }
     ensures writes_never_fall { W.faults sink.old ≤ W.faults sink.new }
+    ensures kinds { map kind_of meters.new.items ≡ map kind_of meters.old.items }
     ensures ended { Ended (record {
       held = S.held shelf.old;
       words = words_of words.now;
@@ -121,10 +135,13 @@ pub fn run<S: Shelf, W: Sink>(
       writes_after = W.faults sink.new;
       taken_before = W.taken sink.old;
       taken_after = W.taken sink.new;
+      kinds = map kind_of meters.old.items;
+      numbers_before = map state meters.old.items;
+      numbers_after = map state meters.new.items;
     }) result }
 {
     match read_words(alloc, words) {
-        Ok(request) => perform(alloc, Asked::of(&request), shelf, sink),
+        Ok(request) => perform(alloc, Asked::of(&request), shelf, sink, meters),
         Err(WordsFault::Usage) => status_of(say(sink, &usage())),
         Err(WordsFault::NoMemory) => Status::Memory,
     }

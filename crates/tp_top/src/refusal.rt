@@ -2,7 +2,8 @@
 
 ghost use Rattle.std.specs.Prelude.{◌≡◌, IfOk};
 ghost use Rattle.tp_clauses.specs.Model.{cause_of as cause_of_reading, refusal};
-ghost use Rattle.tp_top.specs.Expected.{cause_word as word_of, goal_refused as goal_line};
+ghost use Rattle.tp_top.specs.Expected.{alone, cause_word as word_of};
+ghost use Rattle.tp_top.specs.Expected.{goal_refused as goal_line};
 ghost use Rattle.tp_top.specs.Expected.{model_refused as model_line};
 ghost use Rattle.tp_top.specs.Expected.{read_fault, too_long as long_line, usage as usage_line};
 ghost use Rattle.tp_top.specs.Replies.{view_of};
@@ -23,7 +24,7 @@ pub fn usage() -> Reply
 
 /// The answer to a model whose file couldn't be read. Takes no memory.
 pub fn unread() -> Reply
-    ensures { view_of result ≡ (Status.Read, read_fault) }
+    ensures { view_of result ≡ alone Status.Read read_fault }
 {
     Reply::fixed(Status::Read, "read fault\n")
 }

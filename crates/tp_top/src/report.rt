@@ -8,7 +8,7 @@ ghost use Rattle.tp_parse.specs.Ops.{table_of};
 ghost use Rattle.tp_parse.specs.Table.{Table};
 ghost use Rattle.tp_write.specs.Text.{text as term_text};
 ghost use Rattle.tp_top.specs.Report.{end_by, with_last};
-ghost use Rattle.tp_top.specs.Expected.{Answer};
+ghost use Rattle.tp_top.specs.Expected.{Answer, alone};
 ghost use Rattle.tp_top.specs.Replies.{counts_in, view_of};
 ghost use Rattle.tp_top.specs.Written.{Writes};
 ghost use Rattle.tp_engine.specs.declared.answers.AnswerFault.{AnswerFault};
@@ -56,7 +56,7 @@ pub struct Reply {
 impl Reply {
     /// A reply with a text that is fixed. Takes no memory.
     pub fn fixed(status: Status, text: &'static str) -> Reply
-        ensures { view_of result ≡ (status, text.now) }
+        ensures { view_of result ≡ alone status text.now }
     {
         Reply {
             status,
@@ -66,7 +66,7 @@ impl Reply {
 
     /// A reply with a text that was made.
     pub fn made(status: Status, text: String) -> Reply
-        ensures { view_of result ≡ (status, string_bytes text) }
+        ensures { view_of result ≡ alone status (string_bytes text) }
     {
         Reply {
             status,
@@ -157,7 +157,7 @@ pub fn report(alloc: Global, view: &AnswerView<'_>, ended: &Ended) -> Result<Rep
     ensures { IfOk result (λ reply.
         view_of reply ≡ with_last [] ended.now.steps
         (end_by (table_of view.now.ops) (counts_in ended.now)
-        (end_of view.now ended.now.how))) }
+        (end_of view.now ended.now.how)) None) }
 {
     let (status, end) = end_of_search(alloc, view, ended)?;
     let mut text = String::new(alloc);

@@ -4,9 +4,11 @@
 //! output, and the exit status is the number of the run's [`Status`].
 #![tactic(auto)]
 
+use std::alloc::AllocError;
 use std::env;
 use std::io::ErrorKind;
 use std::process::ExitCode;
+use tp_meters::{EventMeter, MailMeter, Meter, ProcMeter, TimeMeter};
 use tp_outside::{FileShelf, OutSink};
 use tp_top::{Status, run};
 
@@ -29,13 +31,24 @@ fn words(rt: &HostRuntime) -> Result<Vec<String>, u8> {
     Ok(words)
 }
 
+/// Makes the meters, and runs with these words.
+fn run_with(rt: &HostRuntime, words: &[String]) -> Result<Status, AllocError> {
+    let alloc = rt.alloc();
+    let mut meters: Vec<Box<dyn Meter>> = Vec::new(alloc);
+    meters.push(Box::new(alloc, EventMeter::new())?)?;
+    meters.push(Box::new(alloc, TimeMeter::new())?)?;
+    meters.push(Box::new(alloc, MailMeter::new())?)?;
+    meters.push(Box::new(alloc, ProcMeter::new())?)?;
+    let mut shelf = FileShelf::new(rt);
+    let mut sink = OutSink::new(rt);
+    Ok(run(alloc, words, &mut shelf, &mut sink, &mut meters))
+}
+
 fn main(rt: HostRuntime) -> ExitCode {
     let words = match words(&rt) {
         Ok(words) => words,
         Err(number) => return ExitCode::from(number),
     };
-    let mut shelf = FileShelf::new(&rt);
-    let mut sink = OutSink::new(&rt);
-    let status = run(rt.alloc(), &words, &mut shelf, &mut sink);
+    let status = run_with(&rt, &words).unwrap_or(Status::Memory);
     ExitCode::from(status.number())
 }

@@ -1,9 +1,11 @@
 //! Runs with ample memory: what is printed, and how they end.
 ghost use Rattle.std.specs.Prelude.{◌<◌};
 
+use crate::boxed::take_all;
 use crate::program::{Status, run};
 use std::alloc::{AllocError, Global};
 use std::test::Fail;
+use tp_meters::{EventMeter, EventView, MailMeter, Meter, ProcMeter, TimeMeter};
 use tp_outside::{MemShelf, MemSink};
 
 /// What a run over memory left.
@@ -13,6 +15,7 @@ struct Left {
     taken: Vec<u8>,
     read_faults: u64,
     write_faults: u64,
+    numbers: Vec<u64>,
 }
 
 /// How a shelf or a sink cuts what it gives or takes, and the calls that fail.
@@ -42,7 +45,25 @@ const FIFTH: Cuts = Cuts {
     fails: &[5],
 };
 
-/// A run with these words, over a shelf that holds a model under `m`.
+/// Adds the numbers that a meter tells.
+fn add_numbers(meter: &Box<dyn Meter>, numbers: &mut Vec<u64>) -> Result<(), AllocError> {
+    for at in 0..7 {
+        if let Some(number) = meter.number(at) {
+            numbers.push(number)?;
+        }
+    }
+    Ok(())
+}
+
+/// What the meters have counted before a run.
+const SENT: EventView = EventView {
+    time: 3,
+    kind: 3,
+    amount: 0,
+};
+
+/// A run with these words, over a shelf that holds a model under `m`, and with a meter of each
+/// kind, which has counted a Send.
 fn run_over(
     alloc: Global,
     words: &[&str],
@@ -64,12 +85,23 @@ fn run_over(
     let Ok(mut sink) = MemSink::new(alloc, 1_000_000, writing.piece, fails) else {
         return Err(Fail::from(AllocError));
     };
-    let status = run(alloc, &given, &mut shelf, &mut sink);
+    let mut meters: Vec<Box<dyn Meter>> = Vec::new(alloc);
+    meters.push(Box::new(alloc, EventMeter::new())?)?;
+    meters.push(Box::new(alloc, TimeMeter::new())?)?;
+    meters.push(Box::new(alloc, MailMeter::new())?)?;
+    meters.push(Box::new(alloc, ProcMeter::new())?)?;
+    take_all(&mut meters, &SENT);
+    let status = run(alloc, &given, &mut shelf, &mut sink, &mut meters);
+    let mut numbers = Vec::new(alloc);
+    for meter in meters.iter() {
+        add_numbers(meter, &mut numbers)?;
+    }
     Ok(Left {
         status,
         taken: Vec::from_slice(alloc, sink.taken())?,
         read_faults: shelf.faults(),
         write_faults: sink.faults(),
+        numbers,
     })
 }
 
@@ -204,6 +236,53 @@ fn takes_options(rt: HostRuntime) -> Result<(), Fail> {
         assert_eq!(rt; front, lines.as_bytes(), "with {steps}");
         assert_eq!(rt; rest, last.as_bytes(), "with {steps}");
     }
+    Ok(())
+}
+
+/// The lines of the meters of an answer of `main` alone, and their numbers.
+const LINES: &str = "meter events 0 1 0 0 0 0 1\nmeter time 0 0 0\nmeter mail 0 0 0\n\
+    meter procs 0 1\n";
+
+const COUNTED: [u64; 15] = [0, 1, 0, 0, 0, 0, 1, 0, 0, 0, 0, 0, 0, 0, 1];
+
+/// The numbers of meters that have counted the Send alone.
+const BEFORE: [u64; 15] = [0, 0, 0, 1, 0, 0, 0, 3, 0, 0, 1, 0, 1, 0, 0];
+
+#[test]
+fn counts_answers(rt: HostRuntime) -> Result<(), Fail> {
+    let alloc = rt.alloc();
+    let both = format!(in alloc;
+        "{FIRST}{LINES}answer 2\nX = 2\n0 main: start\n0 main: end\n\
+        end 0 steps 6\n{LINES}stopped after 6 steps\n"
+    )?;
+    for (goal, answers, meters, text, numbers) in [
+        ("p(X)", "--answers=2", "--meters", both.as_str(), COUNTED),
+        (
+            "p(3)",
+            "--answers=1",
+            "--meters",
+            "no after 2 steps: 1 failed 0 deadlock 0 late\n",
+            BEFORE,
+        ),
+        (
+            "p(3)",
+            "--answers=1",
+            "--steps=9",
+            "no after 2 steps: 1 failed 0 deadlock 0 late\n",
+            BEFORE,
+        ),
+    ] {
+        let words = ["m", goal, answers, meters];
+        let left = run_over(alloc, words.as_slice(), P, SMOOTH, SMOOTH)?;
+        assert_eq!(rt; left.taken.as_slice(), text.as_bytes(), "with {meters}");
+        assert_eq!(rt;
+            left.numbers.as_slice(),
+            numbers.as_slice(),
+            "with {meters}"
+        );
+    }
+    let left = run_over(alloc, &["m", "p(1)"], P, SMOOTH, SMOOTH)?;
+    assert_eq!(rt; left.numbers.as_slice(), BEFORE.as_slice());
     Ok(())
 }
 

@@ -1,4 +1,4 @@
-use Rattle.std.proofs.Common.{length, refl, ap, subst, sym, ◌∙◌}
+use Rattle.std.proofs.Common.{None, length, map, refl, ap, subst, sym, ◌∙◌}
 use Rattle.tp_terms.proofs.NameLemmas.{Grows-length}
 use Rattle.tp_terms.proofs.ShownLemmas.{AreNamed-longer}
 use Rattle.tp_parse.specs.Ops.{table_of}
@@ -6,8 +6,10 @@ use Rattle.tp_parse.specs.Texts.{goal_of}
 use Rattle.tp_clauses.specs.Model.{cause_of}
 use Rattle.tp_engine.proofs.GoalsRead.{goal-fits, read-fits}
 use Rattle.tp_top.specs.Expected.{for_goal}
+use Rattle.tp_top.specs.Metered.{MayCount}
 use Rattle.tp_top.specs.Told.{model_in, request_in}
 use Rattle.tp_top.specs.Written.{Writes}
+use Rattle.tp_top.proofs.CountedLemmas.{fault_counted, stay_counted}
 use Rattle.tp_top.proofs.RunAnswers.{goal_some, if_ok, goal_answered, goal_stopped, told_stop, same_goal_line}
 use Rattle.tp_top.proofs.WrittenLemmas.{less_of_none}
 use Rattle.tp_top.proofs.answer.answer_goal.Goals as goal
@@ -25,7 +27,7 @@ pub returns-in-Ok-clause-wrote : goal.returns-in-Ok-clause-wrote
 returns-in-Ok-clause-wrote g c =
     let told = c.in-Ok.ensures.read in
     subst (λ a. Writes a (g.W.Sink.faults c.args.sink.now) (g.W.Sink.faults c.answer_read.new.sink) (g.W.Sink.taken c.args.sink.now) (g.W.Sink.taken c.answer_read.new.sink) c.answer_read.result)
-    (goal_answered c.args.atoms c.read_goal.new.atoms c.args.base.now c.in-Ok.term told.0 (request_in c.args.asked) c.in-Ok.ensures.grows c.requires.base
+    (goal_answered (g.M.Counting.kinds c.args.meters.now) c.args.atoms c.read_goal.new.atoms c.args.base.now c.in-Ok.term told.0 (request_in c.args.asked) c.in-Ok.ensures.grows c.requires.base
     (ap (λ ops. goal_of (table_of ops) c.args.asked.goal.now) (sym c.ops.ensures) ∙ told.1) told.2)
     c.answer_read.ensures.wrote
 
@@ -33,15 +35,35 @@ pub returns-in-Err-Refused-clause-wrote : goal.returns-in-Err-Refused-clause-wro
 returns-in-Err-Refused-clause-wrote g c =
     let w = c.in-Err-Refused in
     let m = model_in c.args.atoms c.args.base.now in
-    c.say_made.ensures.wrote (for_goal m (request_in c.args.asked))
+    c.say_made.ensures.wrote (for_goal (g.M.Counting.kinds c.args.meters.now) m (request_in c.args.asked))
     (if_ok c.goal_refused.result _ _
     (λ reply answered.
     answered ∙ same_goal_line _ w.byte _ (cause_of w.cause) w.byte-is (c.cause_of.ensures ∙ ap cause_of w.cause-is)
-    ∙ goal_stopped c.args.atoms c.args.base.now (w.byte, w.cause) (request_in c.args.asked)
+    ∙ goal_stopped (g.M.Counting.kinds c.args.meters.now) c.args.atoms c.args.base.now (w.byte, w.cause) (request_in c.args.asked)
     (ap (λ ops. goal_of (table_of ops) c.args.asked.goal.now) (sym c.ops.ensures) ∙ told_stop c.read_goal.new.atoms w.field-0 w.byte w.cause _ w.field-0-is w.ensures.read))
     c.goal_refused.ensures)
-    (goal_some m (request_in c.args.asked))
+    (goal_some (g.M.Counting.kinds c.args.meters.now) m (request_in c.args.asked))
 
 pub returns-clause-wrote : goal.returns-clause-wrote
 returns-clause-wrote g c =
-    (refl, less_of_none _ _ _ refl (goal_some (model_in c.args.atoms c.args.base.now) (request_in c.args.asked)))
+    (refl, less_of_none _ _ _ refl (goal_some (g.M.Counting.kinds c.args.meters.now) (model_in c.args.atoms c.args.base.now) (request_in c.args.asked)))
+
+pub returns-in-Ok-clause-counted : goal.returns-in-Ok-clause-counted
+returns-in-Ok-clause-counted g c =
+    let told = c.in-Ok.ensures.read in
+    subst (λ a. MayCount c.answer_read.result c.args.asked.meters (g.M.Counting.kinds c.args.meters.now) a.2 (g.M.Counting.numbers c.args.meters.now) (g.M.Counting.numbers c.answer_read.new.meters))
+    (goal_answered (g.M.Counting.kinds c.args.meters.now) c.args.atoms c.read_goal.new.atoms c.args.base.now c.in-Ok.term told.0 (request_in c.args.asked) c.in-Ok.ensures.grows c.requires.base
+    (ap (λ ops. goal_of (table_of ops) c.args.asked.goal.now) (sym c.ops.ensures) ∙ told.1) told.2)
+    c.answer_read.ensures.counted
+
+pub returns-in-Err-Refused-clause-counted : goal.returns-in-Err-Refused-clause-counted
+returns-in-Err-Refused-clause-counted g c =
+    let w = c.in-Err-Refused in
+    subst (λ a. MayCount c.say_made.result c.args.asked.meters (g.M.Counting.kinds c.args.meters.now) a.2 (g.M.Counting.numbers c.args.meters.now) (g.M.Counting.numbers c.args.meters.now))
+    (goal_stopped (g.M.Counting.kinds c.args.meters.now) c.args.atoms c.args.base.now (w.byte, w.cause) (request_in c.args.asked)
+    (ap (λ ops. goal_of (table_of ops) c.args.asked.goal.now) (sym c.ops.ensures) ∙ told_stop c.read_goal.new.atoms w.field-0 w.byte w.cause _ w.field-0-is w.ensures.read))
+    (stay_counted c.say_made.result c.args.asked.meters (g.M.Counting.kinds c.args.meters.now) (g.M.Counting.numbers c.args.meters.now) (g.M.Counting.numbers c.args.meters.now) refl)
+
+pub returns-clause-counted : goal.returns-clause-counted
+returns-clause-counted g c =
+    fault_counted c.args.asked.meters (g.M.Counting.kinds c.args.meters.now) (for_goal (g.M.Counting.kinds c.args.meters.now) (model_in c.args.atoms c.args.base.now) (request_in c.args.asked)).2 (g.M.Counting.numbers c.args.meters.now)

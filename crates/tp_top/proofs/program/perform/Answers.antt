@@ -1,6 +1,7 @@
-use Rattle.std.proofs.Common.{Err, inl, refl, ap, subst, sym}
+use Rattle.std.proofs.Common.{Err, inl, map, refl, ap, subst, sym}
 use Rattle.tp_top.specs.Ended.{Ended, Run}
 use Rattle.tp_top.specs.Expected.{Answer, for_text}
+use Rattle.tp_top.specs.Metered.{MayCount}
 use Rattle.tp_top.specs.Told.{request_in}
 use Rattle.tp_top.specs.Written.{Writes}
 use Rattle.tp_top.proofs.RunLemmas.{long_written, out_of_memory, part_read, text_written}
@@ -17,10 +18,14 @@ returns-in-Ok-clause-ended g c = λ words is.
       writes_after = g.W.Sink.faults c.answer.new.sink;
       taken_before = g.W.Sink.taken c.args.sink.now;
       taken_after = g.W.Sink.taken c.answer.new.sink;
+      kinds = g.M.Counting.kinds c.args.meters.now;
+      numbers_before = g.M.Counting.numbers c.args.meters.now;
+      numbers_after = g.M.Counting.numbers c.answer.new.meters;
     }) in
-    let answered = subst (λ t. Writes (for_text t (request_in c.args.asked)) run.writes_before run.writes_after run.taken_before run.taken_after c.answer.result) c.deref.ensures.value c.answer.ensures.wrote in
+    let answered = subst (λ t. Writes (for_text (g.M.Counting.kinds c.args.meters.now) t (request_in c.args.asked)) run.writes_before run.writes_after run.taken_before run.taken_after c.answer.result) c.deref.ensures.value c.answer.ensures.wrote in
+    let counted = subst (λ t. MayCount c.answer.result c.args.asked.meters run.kinds (for_text run.kinds t (request_in c.args.asked)).2 run.numbers_before run.numbers_after) c.deref.ensures.value c.answer.ensures.counted in
     subst (Ended run) (sym c.status_of.ensures)
-    (text_written run (request_in c.args.asked) c.in-Ok.text.items c.answer.result is c.in-Ok.ensures.all c.in-Ok.ensures.no_fault answered)
+    (text_written run (request_in c.args.asked) c.in-Ok.text.items c.answer.result is c.in-Ok.ensures.all c.in-Ok.ensures.no_fault answered counted)
 
 pub returns-in-Err-TooLong-clause-ended : goal.returns-in-Err-TooLong-clause-ended
 returns-in-Err-TooLong-clause-ended g c = λ words is.
@@ -33,11 +38,14 @@ returns-in-Err-TooLong-clause-ended g c = λ words is.
       writes_after = g.W.Sink.faults c.say-in-Err-TooLong.new.sink;
       taken_before = g.W.Sink.taken c.args.sink.now;
       taken_after = g.W.Sink.taken c.say-in-Err-TooLong.new.sink;
+      kinds = g.M.Counting.kinds c.args.meters.now;
+      numbers_before = g.M.Counting.numbers c.args.meters.now;
+      numbers_after = g.M.Counting.numbers c.args.meters.now;
     }) in
     let said = subst (λ (a : Answer). Writes a run.writes_before run.writes_after run.taken_before run.taken_after c.say-in-Err-TooLong.result) c.too_long.ensures c.say-in-Err-TooLong.ensures.wrote in
     subst (Ended run) (sym c.status_of-in-Err-TooLong.ensures)
     (long_written run (request_in c.args.asked) c.say-in-Err-TooLong.result is
-    (c.in-Err-TooLong.ensures.too_long (ap Err c.in-Err-TooLong.field-0-is))
+    (c.in-Err-TooLong.ensures.too_long (ap Err c.in-Err-TooLong.field-0-is)) refl
     c.say-in-Err-TooLong.ensures.fault said)
 
 pub returns-in-Err-NoMemory-clause-ended : goal.returns-in-Err-NoMemory-clause-ended
@@ -51,8 +59,11 @@ returns-in-Err-NoMemory-clause-ended g c = λ words is.
       writes_after = g.W.Sink.faults c.args.sink.now;
       taken_before = g.W.Sink.taken c.args.sink.now;
       taken_after = g.W.Sink.taken c.args.sink.now;
+      kinds = g.M.Counting.kinds c.args.meters.now;
+      numbers_before = g.M.Counting.numbers c.args.meters.now;
+      numbers_after = g.M.Counting.numbers c.args.meters.now;
     }) in
     let refused = ap Err c.in-Err-NoMemory.field-0-is in
     out_of_memory run
     (inl (part_read run (request_in c.args.asked) is (c.in-Err-NoMemory.ensures.no_memory refused) (c.in-Err-NoMemory.ensures.no_memory_no_fault refused)))
-    refl refl
+    refl refl refl

@@ -12,4 +12,4 @@ perform-requires g c = record {
 }
 
 pub returns-in-Err-NoMemory-clause-ended : goal.returns-in-Err-NoMemory-clause-ended
-returns-in-Err-NoMemory-clause-ended g c = out_of_memory _ (inr (refl, refl, refl)) refl refl
+returns-in-Err-NoMemory-clause-ended g c = out_of_memory _ (inr (refl, refl, refl)) refl refl refl
