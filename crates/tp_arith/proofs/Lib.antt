@@ -1,6 +1,1 @@
-mod Bounds
-mod Divisions
-mod Shifts
-mod Steps
-mod KindLemmas
-mod Comparisons
+pub mod Evaluation

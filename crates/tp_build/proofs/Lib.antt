@@ -1,11 +1,3 @@
 pub mod Words
-pub mod Unified
-pub mod CheckLemmas
-pub mod ArgumentLemmas
-pub mod Seen
-pub mod Rows
-pub mod FamilyLemmas
-pub mod FunctorLemmas
-pub mod ListLemmas
-pub mod PartsLemmas
-pub mod CodesLemmas
+pub mod RowAnswers
+pub mod PlacesShow

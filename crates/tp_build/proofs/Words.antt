@@ -11,11 +11,11 @@ use Rattle.tp_terms.specs.declared.symbols.TheConstants.{ATOM, ATOMIC, CHARACTER
 use Rattle.tp_terms.specs.Term.{Atom, Comp, NoMore, More}
 use Rattle.tp_terms.specs.StartNames.{start_names}
 use Rattle.tp_terms.specs.Shown.{name_at}
-use Rattle.tp_terms.proofs.StartLemmas.{start-name_at, start-within, length-start_names}
+use Rattle.tp_terms.proofs.Naming.Start.{start-name_at, start-within, length-start_names}
 use Rattle.tp_meaning.specs.Subst.{Subst, apply}
 use Rattle.tp_meaning.specs.Checks.{unbound}
 use Rattle.tp_meaning.specs.Heap.{Heap, IsHeap, CanStand, Makes, seen, cell_shown, with_cell}
-use Rattle.tp_meaning.proofs.HeapLemmas.{adds-none, adds-trans, adds-cell, shown-placed}
+use Rattle.tp_meaning.proofs.HeapsGrow.Cells.{adds-none, adds-trans, adds-cell, shown-placed}
 use Rattle.tp_build.specs.declared.outcome.Outcome.TheVariants as outcome
 use Rattle.tp_build.specs.declared.errors.WantedType.{WantedType}
 use Rattle.tp_build.specs.declared.errors.WantedDomain.{WantedDomain}

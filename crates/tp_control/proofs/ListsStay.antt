@@ -4,7 +4,7 @@ use Rattle.std.proofs.lemmas.List.{get_or_append_left, take-append-drop, length-
 use Rattle.std.proofs.Math.Seq.{get_or-append_seam, drop-cons, take-append_seam}
 use Rattle.std.proofs.lemmas.Option.{slice_get_within, get_or_from_slice_get}
 use borrow.Author.Tests.{ltb-true, ltb-false}
-use Rattle.tp_terms.proofs.NameLemmas.{slice_get-append, slice_get-push}
+use Rattle.tp_terms.proofs.Naming.Tables.{slice_get-append, slice_get-push}
 use Rattle.tp_terms.specs.declared.world.ItemId.{ItemId}
 use Rattle.tp_control.specs.declared.frames.Item.{Item}
 use Rattle.tp_control.specs.declared.frames.Frame.{Frame}

@@ -2,10 +2,10 @@
 use Rattle.std.proofs.Common.{◌≡◌, ℕ, ◌+◌, ◌<◌, ◌≤◌, Bool, true, false, Result, Ok, Err, OnErr, length, refl, ap, sym, subst, ◌∙◌, arith}
 use Rattle.tp_meaning.specs.Machine.{IsStack}
 use Rattle.tp_meaning.specs.Step.{searched}
-use Rattle.tp_meaning.proofs.Places.{all-weaker}
-use Rattle.tp_meaning.proofs.Stack.{HasStackUpTo, stack_above, rewound-stack}
+use Rattle.tp_meaning.proofs.ValidWorlds.Places.{all-weaker}
+use Rattle.tp_meaning.proofs.Searching.Stack.{HasStackUpTo, stack_above, rewound-stack}
 use Rattle.tp_terms.specs.declared.world.Proc.{Proc}
-use Rattle.tp_store.proofs.FitsLemmas.{Fits-store}
+use Rattle.tp_store.proofs.Standing.Fits.{Fits-store}
 use Rattle.tp_parse.specs.declared.read.ReadTerm.{ReadTerm}
 use Rattle.tp_clauses.specs.Contents.{Contents}
 use Rattle.tp_engine.specs.declared.answers.AnswerFault.{AnswerFault}
@@ -19,7 +19,7 @@ use Rattle.tp_engine.specs.Phases.{Keeps, phase_after}
 use Rattle.tp_state.specs.Stands.{PlainStands, ProcStands}
 use Rattle.tp_state.specs.State.{plain_of}
 use Rattle.tp_engine.specs.Told.{MayRewind, IsWhole, IsSound, IsSame, IsCounted, IsUncounted, Told, number_after, seen_of, told_of}
-use Rattle.tp_machine.proofs.Later.{base_stays}
+use Rattle.tp_machine.proofs.Grows.Later.{base_stays}
 
 -- what holds holds after an error
 pub on_err : {T E P : Type 0} (r : Result T E) → P → OnErr r P

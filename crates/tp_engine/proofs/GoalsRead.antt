@@ -6,7 +6,7 @@ use Rattle.std.proofs.lemmas.Bool.{eqb-true}
 use Rattle.tp_terms.specs.Term as term
 use Rattle.tp_terms.specs.Term.{Name, Term, Terms, names_eq, occurs, occurs_in}
 use Rattle.tp_terms.specs.declared.text.Named.{Named}
-use Rattle.tp_terms.proofs.BindsLemmas.{occurs-shows}
+use Rattle.tp_terms.proofs.Places.Bound.{occurs-shows}
 use Rattle.tp_lex.specs.Tokens.{Lexed, goal_tokens}
 use Rattle.tp_lex.specs.declared.token.LexFault.{LexFault}
 use Rattle.tp_parse.specs.Tree.{Tree, Variable, Integer, Atom, Compound, Trees, none, first_of}

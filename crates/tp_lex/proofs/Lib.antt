@@ -1,11 +1,5 @@
-pub mod CharacterLemmas
-pub mod TokensLemmas
-pub mod MeaningLemmas
-pub mod TokenLemmas
-pub mod PlaceLemmas
-pub mod QuoteLemmas
-pub mod SuffixLemmas
 pub mod StandsBehind
-pub mod RunLemmas
-pub mod LayoutLemmas
-pub mod DigitLemmas
+pub mod Characters
+pub mod Places
+pub mod Forms
+pub mod TokensStand

@@ -2,3 +2,4 @@
 pub mod Found
 pub mod Reserved
 pub mod Counts
+pub mod Operations

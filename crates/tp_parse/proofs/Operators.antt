@@ -10,7 +10,7 @@ use Rattle.std.specs.declared.alloc.Global.{Global}
 use Rattle.std.specs.declared.string.String.{String}
 use Rattle.indexmap.specs.IndexMap.{insert_entry}
 use Rattle.tp_terms.specs.Term.{Name, names_eq}
-use Rattle.tp_terms.proofs.TextLemmas.{names_eq-chars, names_eq-apart, names_eq-true, same_bytes}
+use Rattle.tp_terms.proofs.Texts.Equal.{names_eq-chars, names_eq-apart, names_eq-true, same_bytes}
 use Rattle.tp_parse.specs.declared.table.TheConstants.{START_OPERATORS}
 use Rattle.tp_parse.specs.Table.{Op, Table, changed, type_of, is_kept_name, empty_table, start_table}
 use Rattle.tp_parse.specs.Start.{with_operators}

@@ -3,13 +3,13 @@ use Rattle.std.proofs.Common.{◌≡◌, ◌≢◌, ℕ, zero, suc, ◌+◌, ◌
 use Rattle.std.specs.Str.{IsUtf8, IsCharBoundary}
 use Rattle.std.proofs.lemmas.Bool.Decides.{Decides-eqb}
 use Rattle.tp_terms.specs.Term.{Name, Term, Terms, names_eq, occurs, occurs_in}
-use Rattle.tp_terms.proofs.TextLemmas.{names_eq-false}
-use Rattle.tp_terms.proofs.NameLemmas.{slice_get-push}
+use Rattle.tp_terms.proofs.Texts.Equal.{names_eq-false}
+use Rattle.tp_terms.proofs.Naming.Tables.{slice_get-push}
 use Rattle.tp_lex.specs.Next.{next}
 use Rattle.tp_lex.specs.Tokens.{Lexed, Reach, ToEnd, lexed, with_token, stops_at, tokens_by_next, tokens_up_to, tokens_from, tokens, goal_tokens}
 use Rattle.tp_lex.specs.declared.token.Token.{Token}
 use Rattle.tp_lex.specs.declared.token.LexFault.{LexFault}
-use Rattle.tp_lex.proofs.TokenLemmas.{given}
+use Rattle.tp_lex.proofs.TokensStand.Each.{given}
 use Rattle.tp_parse.specs.Tree.{Tree, Variable, Integer, Atom, Compound, Trees, none, first_of}
 use Rattle.tp_parse.specs.Table.{Table}
 use Rattle.tp_parse.specs.Reading.{Read, clause_reading, goal_reading}

@@ -4,7 +4,7 @@ use Rattle.std.proofs.lemmas.List.{get_or-set_same, get_or-set_other, length-set
 use Rattle.std.proofs.Math.ListN.{get_or-eq_default}
 use Rattle.std.proofs.lemmas.Option.{slice_get_within, slice_get-get_or, same_Some}
 use Rattle.std.proofs.lemmas.Bool.Decides.{eqb_tells}
-use Rattle.tp_terms.proofs.NameLemmas.{slice_get-append, slice_get-push}
+use Rattle.tp_terms.proofs.Naming.Tables.{slice_get-append, slice_get-push}
 use Rattle.tp_terms.specs.declared.world.Proc.{Proc}
 use Rattle.tp_procs.specs.declared.tree.Node.{Node}
 use Rattle.tp_procs.specs.Tree.{nothing, joined, own_of, node_at, whole_of, IsRight, IsTree, IsTreeBut}

@@ -1,1 +1,1 @@
-pub mod ReportLemmas
+pub mod Owed

@@ -176,4 +176,5 @@ roused pid q p =
 
 -- a message was sent to a process, which is as given
 abbrev pub posted : ℕ → Ref → ℕ → Proc → Plain → Plain
-posted from message to q p = roused to q (noted from (event.Send message to) (delivered to message p))
+posted from message to q p =
+    roused to q (noted from (event.Send message to) (delivered to message p))

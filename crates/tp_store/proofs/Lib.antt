@@ -4,7 +4,5 @@ pub mod Bodies
 pub mod Arguments
 pub mod Substitution
 pub mod Trail
-pub mod FitsLemmas
-pub mod StoreLemmas
-pub mod NamelessLemmas
 pub mod Comparison
+pub mod Standing

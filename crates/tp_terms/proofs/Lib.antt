@@ -1,8 +1,3 @@
-pub mod ShownLemmas
-mod KeptLemmas
-pub mod TextLemmas
-pub mod NameLemmas
-pub mod StartLemmas
-pub mod SymbolLemmas
-pub mod BindsLemmas
-pub mod AddedLemmas
+pub mod Texts
+pub mod Naming
+pub mod Places

@@ -1,8 +1,2 @@
-pub mod CountedLemmas
-pub mod MeterLemmas
-pub mod WrittenLemmas
-pub mod RunLemmas
-pub mod StoreUnderLemmas
-pub mod RunAnswers
-pub mod LineLemmas
-pub mod BoxedLemmas
+pub mod Running
+pub mod Metering

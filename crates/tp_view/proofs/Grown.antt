@@ -5,8 +5,8 @@ use Rattle.tp_terms.specs.Term.{Name, Term, replaced}
 use Rattle.tp_terms.specs.Shown.{shows}
 use Rattle.tp_terms.specs.Binds.{Bindings}
 use Rattle.tp_meaning.specs.Subst.{Subst, apply, value_at, put, for_one}
-use Rattle.tp_meaning.proofs.Unify.{Over, over_term, idem_over, value-extended}
-use Rattle.tp_meaning.proofs.Complete.{apply-extended}
+use Rattle.tp_meaning.proofs.Unification.Solved.{Over, over_term, idem_over, value-extended}
+use Rattle.tp_meaning.proofs.Unification.Complete.{apply-extended}
 use Rattle.tp_store.specs.Contents.{Contents, chained, AreChained, IsStore, subst_of}
 use Rattle.tp_store.proofs.Substitution.Chained.{IsSubst-chained, unnamed}
 use Rattle.tp_store.proofs.Substitution.Kept.{subst_of-append}

@@ -6,14 +6,14 @@ use Rattle.tp_terms.specs.declared.cells.Cell.TheVariants as cell
 use Rattle.tp_terms.specs.Term.{Name}
 use Rattle.tp_terms.specs.Names.{IsTable, Grows, with_name}
 use Rattle.tp_terms.specs.Shown.{AreNamed, IsNamed, StandsBefore}
-use Rattle.tp_terms.proofs.ShownLemmas.{AreNamed-push, AreNamed-longer}
+use Rattle.tp_terms.proofs.Places.Shown.{AreNamed-push, AreNamed-longer}
 use Rattle.tp_meaning.specs.Subst.{IsSubst}
 use Rattle.tp_meaning.specs.Heap.{IsHeap, IsUnbound, HasPlaces, with_name_too}
 use Rattle.tp_log.specs.declared.entry.Entry.{Entry}
 use Rattle.tp_store.specs.Contents as store
 use Rattle.tp_store.specs.Contents.{Contents, IsStore, subst_of, with_cell, with_vars}
 use Rattle.tp_store.specs.Joined.{KeepsAtoms}
-use Rattle.tp_store.proofs.StoreLemmas.{IsSubst-store, subst_of-names}
+use Rattle.tp_store.proofs.Standing.Facts.{IsSubst-store, subst_of-names}
 use Rattle.tp_store.proofs.Substitution.Chained.{unnamed}
 use Rattle.tp_view.specs.Seen.{heap_of}
 

@@ -1,3 +1,1 @@
-pub mod DigitLemmas
-pub mod RequestLemmas
-pub mod CommandLemmas
+pub mod ReadsWords

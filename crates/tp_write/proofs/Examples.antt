@@ -4,7 +4,7 @@ use Rattle.std.specs.Fmt.{digits}
 use Rattle.tp_terms.specs.Term.{Term, Var, Int, atom, comp, nat, cell, list_term}
 use Rattle.tp_parse.specs.Table.{Table, start_table, with_op}
 use Rattle.tp_parse.specs.declared.table.OpType.TheVariants.{Yfx, Fy}
-use Rattle.tp_lex.proofs.CharacterLemmas.{classes}
+use Rattle.tp_lex.proofs.Characters.Ascii.{classes}
 use Rattle.tp_write.specs.Names.{name_text}
 use Rattle.tp_write.specs.Text.{text, written, all_written}
 

@@ -4,10 +4,10 @@ use Rattle.std.specs.Int.{w64}
 use Rattle.std.proofs.lemmas.Result.{err_from_is_err_and}
 use Rattle.tp_meaning.specs.Arith.{evaluated, value}
 use Rattle.tp_meaning.specs.Heap.{shown}
-use Rattle.tp_meaning.proofs.HeapLemmas.{seen-kept}
+use Rattle.tp_meaning.proofs.HeapsGrow.Cells.{seen-kept}
 use Rattle.tp_arith.specs.Values.{Evaluates, holds}
-use Rattle.tp_arith.proofs.Bounds.{bits_of, bits_of-fits}
-use Rattle.tp_arith.proofs.Comparisons.{tested, tested-right, tested-both}
+use Rattle.tp_arith.proofs.Evaluation.Bounds.{bits_of, bits_of-fits}
+use Rattle.tp_arith.proofs.Evaluation.Comparisons.{tested, tested-right, tested-both}
 use Rattle.tp_arith.proofs.compare_numbers.Goals as goal
 
 pub returns-in_err-y-clause-value : goal.returns-in_err-y-clause-value

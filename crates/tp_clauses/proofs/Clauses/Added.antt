@@ -10,8 +10,8 @@ use Rattle.tp_terms.specs.declared.cells.Ref.{Ref}
 use Rattle.tp_terms.specs.declared.cells.AtomId.{AtomId}
 use Rattle.tp_terms.specs.Term.{Name, occurs}
 use Rattle.tp_terms.specs.Shown.{shows, AreBuilt, AreNamed}
-use Rattle.tp_terms.proofs.ShownLemmas.{shows-append}
-use Rattle.tp_terms.proofs.NameLemmas.{slice_get-append}
+use Rattle.tp_terms.proofs.Places.Shown.{shows-append}
+use Rattle.tp_terms.proofs.Naming.Tables.{slice_get-append}
 use Rattle.tp_clauses.specs.Contents.{ViewFits, IsHead, AreBelow, clause_of, clause_by, base_of, is_of, is_of_by, places_from}
 use Rattle.tp_clauses.specs.Indexed.{ids_in, same_key}
 use Rattle.tp_clauses.specs.Kinds.{key_of}
@@ -22,7 +22,7 @@ use Rattle.tp_clauses.specs.declared.index.Index.{Index}
 use Rattle.tp_store.specs.Contents.{Contents, AddsCells, IsStore, chained, seen}
 use Rattle.tp_meaning.specs.Body.{body}
 use Rattle.tp_meaning.specs.Subst.{apply}
-use Rattle.tp_meaning.proofs.Applied.{apply-empty}
+use Rattle.tp_meaning.proofs.Unification.Applied.{apply-empty}
 use Rattle.tp_terms.specs.Names.{IsTable}
 use Rattle.tp_terms.specs.declared.symbols.TheConstants.{CALL}
 use Rattle.tp_clauses.proofs.Taking.StartNames.{call-within}

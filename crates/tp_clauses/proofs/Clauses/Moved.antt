@@ -6,7 +6,7 @@ use Rattle.tp_terms.specs.declared.cells.Cell.{Cell}
 use Rattle.tp_terms.specs.declared.cells.Cell.TheVariants as cell
 use Rattle.tp_terms.specs.Term.{Name, Term, Atom, Comp, More}
 use Rattle.tp_terms.specs.Shown.{name_at, shown_by, terms_from, terms, shows, row_at, IsNamed, AreNamed}
-use Rattle.tp_terms.proofs.ShownLemmas.{length-terms}
+use Rattle.tp_terms.proofs.Places.Shown.{length-terms}
 use Rattle.tp_clauses.specs.Moved.{moved}
 
 get_or-behind : {X : Type 0} (xs ys : List X) (i : ℕ) (d : X) → get_or (xs ++ ys) (i + length xs) d ≡ get_or ys i d

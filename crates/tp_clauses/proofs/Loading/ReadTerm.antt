@@ -10,7 +10,7 @@ use Rattle.tp_lex.specs.Next.{next}
 use Rattle.tp_lex.specs.Tokens.{Lexed, Reach, ToEnd, lexed, with_token, stops_at, tokens_by_next, tokens_up_to, tokens_from, tokens}
 use Rattle.tp_lex.specs.declared.token.Token.{Token}
 use Rattle.tp_lex.specs.declared.token.LexFault.{LexFault}
-use Rattle.tp_lex.proofs.TokenLemmas.{given}
+use Rattle.tp_lex.proofs.TokensStand.Each.{given}
 use Rattle.tp_parse.specs.Table.{Table}
 use Rattle.tp_parse.specs.Ops.{table_of}
 use Rattle.tp_parse.specs.Tree.{Tree, Variable, Integer, Atom, Compound, Trees, none, first_of}

@@ -7,12 +7,12 @@ use Rattle.tp_terms.specs.declared.cells.Ref.{Ref}
 use Rattle.tp_terms.specs.Term.{Name}
 use Rattle.tp_terms.specs.Names.{Grows}
 use Rattle.tp_terms.specs.Shown.{shows, AreNamed}
-use Rattle.tp_terms.proofs.NameLemmas.{Grows-shows, Grows-length}
-use Rattle.tp_terms.proofs.ShownLemmas.{AreNamed-longer}
+use Rattle.tp_terms.proofs.Naming.Tables.{Grows-shows, Grows-length}
+use Rattle.tp_terms.proofs.Places.Shown.{AreNamed-longer}
 use Rattle.tp_lex.specs.Next.{next}
 use Rattle.tp_lex.specs.Tokens.{ToEnd}
 use Rattle.tp_lex.specs.declared.token.LexFault.{LexFault}
-use Rattle.tp_lex.proofs.TokensLemmas.{tokens-next}
+use Rattle.tp_lex.proofs.TokensStand.Listed.{tokens-next}
 use Rattle.tp_parse.specs.Ops.{table_of}
 use Rattle.tp_parse.specs.Table.{Table, start_table}
 use Rattle.tp_parse.specs.Texts.{clause_of, clause_in, refused_token}

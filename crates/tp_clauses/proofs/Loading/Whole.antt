@@ -20,8 +20,8 @@ use Rattle.tp_terms.specs.declared.cells.AtomId.{AtomId}
 use Rattle.tp_terms.specs.Term.{Name, Term, Terms, Var, Int, Atom, Comp, NoMore, More, names_eq, count_of, occurs, occurs_in}
 use Rattle.tp_terms.specs.Names.{AreDistinct}
 use Rattle.tp_terms.specs.Shown.{name_at, shows, shown_from, args_at, IsNamed, AreBuilt, AreNamed}
-use Rattle.tp_terms.proofs.ShownLemmas.{shows-cell, AreNamed-cell}
-use Rattle.tp_terms.proofs.NameLemmas.{names_eq-places}
+use Rattle.tp_terms.proofs.Places.Shown.{shows-cell, AreNamed-cell}
+use Rattle.tp_terms.proofs.Naming.Tables.{names_eq-places}
 use Rattle.tp_meaning.specs.Body.{body}
 use Rattle.tp_meaning.proofs.Bodies.{body-own}
 use Rattle.tp_meaning.specs.Clauses.{Base, Clause, predicate}

@@ -10,7 +10,7 @@ use Rattle.tp_terms.specs.declared.cells.AtomId.{AtomId}
 use Rattle.tp_terms.specs.declared.symbols.TheConstants.{OP, LIST_CELL, EMPTY_LIST}
 use Rattle.tp_terms.specs.Term.{Name, Term, Terms, Int, Atom, Comp, NoMore, More, names_eq, count_of}
 use Rattle.tp_terms.specs.Shown.{name_at, shows, shown_from, args_at, StandsBefore, IsNamed, AreBuilt}
-use Rattle.tp_terms.proofs.ShownLemmas.{shows-cell, AreNamed-cell}
+use Rattle.tp_terms.proofs.Places.Shown.{shows-cell, AreNamed-cell}
 use Rattle.tp_parse.specs.Table.{Table, add_op}
 use Rattle.tp_parse.specs.declared.table.OpFault.{OpFault}
 use Rattle.tp_clauses.specs.Kinds.{is_atom}

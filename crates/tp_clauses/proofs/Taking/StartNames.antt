@@ -7,7 +7,7 @@ use Rattle.tp_terms.specs.Term.{Name, names_eq}
 use Rattle.tp_terms.specs.Shown.{name_at}
 use Rattle.tp_terms.specs.StartNames.{start_names}
 use Rattle.tp_terms.specs.Names.{IsTable}
-use Rattle.tp_terms.proofs.StartLemmas.{names_eq-start, start-within}
+use Rattle.tp_terms.proofs.Naming.Start.{names_eq-start, start-within}
 use Rattle.tp_parse.specs.Table.{type_of}
 use Rattle.tp_parse.specs.declared.table.OpType.{OpType}
 use Rattle.tp_parse.specs.declared.table.OpType.TheVariants.{Xfx, Xfy, Yfx, Fy, Fx}

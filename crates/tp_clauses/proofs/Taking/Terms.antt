@@ -9,8 +9,8 @@ use Rattle.tp_terms.specs.declared.cells.AtomId.{AtomId}
 use Rattle.tp_terms.specs.declared.symbols.TheConstants.{NECK, QUERY, GRAMMAR}
 use Rattle.tp_terms.specs.Term.{Name, Term, Terms, Atom, Comp, NoMore, More, names_eq, count_of, occurs}
 use Rattle.tp_terms.specs.Shown.{name_at, shows, shown_from, args_at, StandsBefore, IsNamed, AreNamed, AreBuilt}
-use Rattle.tp_terms.proofs.ShownLemmas.{shows-cell, shows-append, AreNamed-cell}
-use Rattle.tp_terms.proofs.NameLemmas.{slice_get-append}
+use Rattle.tp_terms.proofs.Places.Shown.{shows-cell, shows-append, AreNamed-cell}
+use Rattle.tp_terms.proofs.Naming.Tables.{slice_get-append}
 use Rattle.tp_parse.specs.Table.{Table}
 use Rattle.tp_parse.specs.Ops.{table_of}
 use Rattle.tp_parse.specs.declared.table.Ops.{Ops}
@@ -27,7 +27,7 @@ use Rattle.tp_clauses.specs.Moved.{moved, moved_view}
 use Rattle.tp_clauses.proofs.Clauses.Moved.{shows-moved, AreNamed-moved}
 use Rattle.tp_clauses.proofs.Clauses.Added.{fits_moved, clause_moved, key_behind, longer_base}
 use Rattle.std.proofs.lemmas.List.{length-map}
-use Rattle.tp_terms.proofs.ShownLemmas.{AreNamed-append}
+use Rattle.tp_terms.proofs.Places.Shown.{AreNamed-append}
 use Rattle.tp_clauses.specs.Told.{outcome, Taken, TellsTerm, TellsDirective}
 use Rattle.tp_clauses.specs.declared.base.ClauseView.{ClauseView}
 use Rattle.tp_clauses.specs.declared.parts.Parts.{Parts}

@@ -3,7 +3,7 @@ use Rattle.std.proofs.Common.{◌≡◌, ℕ, suc, ◌+◌, ◌-◌, ◌<◌, �
 use Rattle.std.specs.List.{AllByRecursion}
 use Rattle.std.proofs.lemmas.List.{append-nil}
 use Rattle.tp_terms.specs.Term.{Term}
-use Rattle.tp_terms.proofs.NameLemmas.{Grows-same}
+use Rattle.tp_terms.proofs.Naming.Tables.{Grows-same}
 use Rattle.tp_meaning.specs.World.{World}
 use Rattle.tp_meaning.specs.Clauses.{Base}
 use Rattle.tp_meaning.specs.Search as search
@@ -12,9 +12,9 @@ use Rattle.tp_meaning.specs.Machine as machine
 use Rattle.tp_meaning.specs.Machine.{State, Turn, GoesOn, Ends, machine_of, ended, closed, started, stepped, turned, turn_by, answer_more, back, back_to}
 use Rattle.tp_meaning.specs.Step.{step, searched}
 use Rattle.tp_meaning.specs.Valid.{ClauseFits}
-use Rattle.tp_meaning.proofs.Holds.{step-rises}
-use Rattle.tp_meaning.proofs.Stack.{HasStack}
-use Rattle.tp_meaning.proofs.Turns.{total, Kept, kept-turned, total-start, total-end}
+use Rattle.tp_meaning.proofs.ValidWorlds.Holds.{step-rises}
+use Rattle.tp_meaning.proofs.Searching.Stack.{HasStack}
+use Rattle.tp_meaning.proofs.Searching.Turns.{total, Kept, kept-turned, total-start, total-end}
 use Rattle.tp_parse.specs.declared.read.ReadTerm.{ReadTerm}
 use Rattle.tp_clauses.specs.Contents.{Contents}
 use Rattle.tp_engine.specs.declared.answers.AnswerFault.{AnswerFault}
@@ -35,8 +35,8 @@ use Rattle.tp_engine.specs.Run.{EndsAt, IsCut, IsCutAt, IsRun, Turns, answers_by
 use Rattle.tp_engine.specs.Told.{seen_of}
 use Rattle.tp_engine.proofs.Finds.Taken.{numbered-append, took-append}
 use Rattle.tp_engine.proofs.Finds.Turns.{found_after}
-use Rattle.tp_machine.proofs.Program.{base_fits}
-use Rattle.tp_machine.proofs.SamePrograms.{same_trans}
+use Rattle.tp_machine.proofs.Meets.Program.{base_fits}
+use Rattle.tp_machine.proofs.Grows.SamePrograms.{same_trans}
 
 -- ---- a step, counted
 

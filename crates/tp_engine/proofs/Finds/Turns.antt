@@ -10,7 +10,7 @@ use Rattle.tp_meaning.specs.Machine.{Choice, State, Turn, GoesOn, Ends, machine_
 use Rattle.tp_meaning.specs.Step.{step, searched}
 use Rattle.tp_meaning.specs.declared.DeadCause.{DeadCause}
 use Rattle.tp_meaning.specs.declared.DeadCause.TheVariants.{Failed, Deadlock, Late}
-use Rattle.tp_meaning.proofs.Stack.{back-some, back-none}
+use Rattle.tp_meaning.proofs.Searching.Stack.{back-some, back-none}
 use Rattle.tp_parse.specs.declared.read.ReadTerm.{ReadTerm}
 use Rattle.tp_clauses.specs.Contents.{Contents}
 use Rattle.tp_engine.specs.declared.answers.AnswerFault.{AnswerFault}
@@ -25,7 +25,7 @@ use Rattle.tp_engine.specs.Answers.{Leaves, Takes, Took, answer_in}
 use Rattle.tp_machine.specs.Machine.{SameProgram, Steps, Rewinds, Resumes, answer_by, base_in, state_in, world_in}
 use Rattle.tp_engine.specs.Run.{CountsFit, EndsAt, Follows, GoesBack, IsCut, IsCutAt, Turns, answers_by, counted, found_by, next_answer}
 use Rattle.tp_engine.specs.Told.{seen_of}
-use Rattle.tp_machine.proofs.SamePrograms.{same_trans}
+use Rattle.tp_machine.proofs.Grows.SamePrograms.{same_trans}
 
 -- ---- the way back
 

@@ -21,7 +21,7 @@ use Rattle.tp_lex.specs.Escapes.{letter_escape, closed_code, code_escape, plain_
 use Rattle.tp_lex.specs.Quotes.{at_quote, escaped, item, with_first, items, inside, after_closing}
 use Rattle.tp_lex.specs.Integers.{doubled_quote, escaped_code, character_code, base_of, based, after_zero, integer}
 use Rattle.tp_lex.specs.Form.{largest, single, ends_clause, graphic_form, integer_form, quotes_form, single_form, form}
-use Rattle.tp_lex.proofs.SuffixLemmas.{EndsWith, ends-same, ends-cons, ends-trans, of_choice}
+use Rattle.tp_lex.proofs.Places.Suffixes.{EndsWith, ends-same, ends-cons, ends-trans, of_choice}
 
 pub after_run-ends : (class : Class) (cs : List ℕ) → EndsWith cs (after_run class cs)
 unfolding after_run

@@ -13,9 +13,9 @@ use Rattle.tp_lex.specs.declared.token.LexFault.TheVariants as at_byte
 use Rattle.tp_lex.specs.Layout.{past_layout}
 use Rattle.tp_lex.specs.Form.{form}
 use Rattle.tp_lex.specs.Next.{byte_of, from_byte, fault_at, placed, token_in, next}
-use Rattle.tp_lex.proofs.SuffixLemmas.{EndsWith, ends-cons}
+use Rattle.tp_lex.proofs.Places.Suffixes.{EndsWith, ends-cons}
 use Rattle.tp_lex.proofs.StandsBehind.Ends.{OkEnd, past_layout-ends, form-ends}
-use Rattle.tp_lex.proofs.PlaceLemmas.{place_of}
+use Rattle.tp_lex.proofs.Places.Bytes.{place_of}
 
 pub at-slice : (text sliced : List ℕ) (at : ℕ) (r : Result (List ℕ) (List ℕ)) → sliced ≡ drop at text → r ≡ past_layout (chars sliced) → past_layout (from_byte text at) ≡ r
 at-slice text sliced at r d e = ap (λ b. past_layout (chars b)) (sym d) ∙ sym e

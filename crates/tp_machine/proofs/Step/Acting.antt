@@ -6,7 +6,7 @@ use Rattle.tp_terms.specs.declared.world.EventKind.TheVariants as event
 use Rattle.tp_terms.specs.declared.world.Proc.{Proc}
 use Rattle.tp_terms.specs.Term.{Name, Terms, Int, Atom}
 use Rattle.tp_terms.specs.Shown.{name_at}
-use Rattle.tp_terms.proofs.NameLemmas.{Grows-same}
+use Rattle.tp_terms.proofs.Naming.Tables.{Grows-same}
 use Rattle.tp_meaning.specs.declared.goals.GoalKind.TheVariants.{Process}
 use Rattle.tp_meaning.specs.declared.goals.ProcessGoal.{ProcessGoal}
 use Rattle.tp_meaning.specs.declared.goals.ProcessGoal.TheVariants as goal

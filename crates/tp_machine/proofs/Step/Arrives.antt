@@ -3,7 +3,7 @@ use Rattle.std.proofs.Common.{◌≡◌, ◌+◌, ◌<◌, List, [], ◌∷◌, 
 use Rattle.std.specs.List.{AllByRecursion}
 use Rattle.tp_terms.specs.declared.world.ItemId.{ItemId}
 use Rattle.tp_terms.specs.Term.{Name}
-use Rattle.tp_terms.proofs.NameLemmas.{Grows-same}
+use Rattle.tp_terms.proofs.Naming.Tables.{Grows-same}
 use Rattle.tp_meaning.specs.World.{with_items, stamped}
 use Rattle.tp_meaning.specs.Turn.{going}
 use Rattle.tp_store.specs.Contents.{Contents}

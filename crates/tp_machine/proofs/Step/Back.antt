@@ -7,7 +7,7 @@ use Rattle.tp_meaning.specs.Goals.{goal_kind}
 use Rattle.tp_meaning.specs.Clauses.{predicate}
 use Rattle.tp_meaning.specs.Valid.{Valid}
 use Rattle.tp_store.specs.Contents.{seen, args_seen}
-use Rattle.tp_store.proofs.StoreLemmas.{count-seen}
+use Rattle.tp_store.proofs.Standing.Facts.{count-seen}
 use Rattle.tp_clauses.specs.Contents.{base_of}
 use Rattle.tp_control.specs.declared.frames.Item.{Item}
 use Rattle.tp_control.specs.declared.frames.Item.TheVariants.{Goal}

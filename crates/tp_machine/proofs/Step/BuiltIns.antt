@@ -10,8 +10,8 @@ use Rattle.tp_terms.specs.Term.{Name}
 use Rattle.tp_terms.specs.Names.{IsTable}
 use Rattle.tp_terms.specs.Binds.{Bindings}
 use Rattle.tp_terms.specs.Shown.{name_at, shows, AreNamed}
-use Rattle.tp_terms.proofs.NameLemmas.{Grows-name_at, Grows-length}
-use Rattle.tp_terms.proofs.ShownLemmas.{shows-append}
+use Rattle.tp_terms.proofs.Naming.Tables.{Grows-name_at, Grows-length}
+use Rattle.tp_terms.proofs.Places.Shown.{shows-append}
 use Rattle.tp_meaning.specs.declared.DeadCause.TheVariants.{Failed}
 use Rattle.tp_meaning.specs.declared.goals.BuiltId.{BuiltId}
 use Rattle.tp_meaning.specs.declared.goals.GoalKind.TheVariants.{BuiltIn}
@@ -27,7 +27,7 @@ use Rattle.tp_meaning.specs.Step.{answered, step, searched}
 use Rattle.tp_meaning.specs.Machine as machine
 use Rattle.tp_meaning.specs.Machine.{stepped, stepped_by}
 use Rattle.tp_store.specs.Contents.{Contents, IsStore, CanGoBack, cut_to_mark, seen, subst_of, args_seen, chained}
-use Rattle.tp_store.proofs.StoreLemmas.{can-go-back}
+use Rattle.tp_store.proofs.Standing.Facts.{can-go-back}
 use Rattle.tp_store.proofs.Substitution.Kept.{subst_of-append}
 use Rattle.tp_state.specs.declared.state.State.{State}
 use Rattle.tp_state.specs.Acts.{resting}

@@ -6,7 +6,7 @@ use Rattle.tp_terms.specs.declared.cells.Cell.{Cell}
 use Rattle.tp_terms.specs.declared.cells.Ref.{Ref}
 use Rattle.tp_terms.specs.Term.{Name, Term, Terms, NoMore, More, term_of, count_of, term_size}
 use Rattle.tp_terms.specs.Shown.{name_at, shows}
-use Rattle.tp_terms.proofs.NameLemmas.{Grows-same}
+use Rattle.tp_terms.proofs.Naming.Tables.{Grows-same}
 use Rattle.tp_meaning.specs.Subst.{Subst, IsSubst, Next, apply, mgu, rounds, walk, solve_pair}
 use Rattle.tp_meaning.specs.declared.DeadCause.TheVariants.{Failed}
 use Rattle.tp_meaning.specs.Goals.{goal_kind}
@@ -20,10 +20,10 @@ use Rattle.tp_meaning.specs.Clauses.{Base, Clause, predicate, renamed, head_of, 
 use Rattle.tp_meaning.specs.Step.{step, goal_by, goal_step}
 use Rattle.tp_meaning.specs.Machine as machine
 use Rattle.tp_meaning.specs.Machine.{with_choice}
-use Rattle.tp_meaning.proofs.Applied.{apply-twice, mgu-solves, solves-over}
-use Rattle.tp_meaning.proofs.Places.{at_place-map, at_place-over}
+use Rattle.tp_meaning.proofs.Unification.Applied.{apply-twice, mgu-solves, solves-over}
+use Rattle.tp_meaning.proofs.ValidWorlds.Places.{at_place-map, at_place-over}
 use Rattle.tp_store.specs.Contents.{Contents, IsStore, subst_of, seen, args_seen}
-use Rattle.tp_store.proofs.StoreLemmas.{IsSubst-store, count-seen}
+use Rattle.tp_store.proofs.Standing.Facts.{IsSubst-store, count-seen}
 use Rattle.tp_clauses.specs.declared.base.ClauseView.{ClauseView}
 use Rattle.tp_clauses.specs.Contents.{clause_of}
 use Rattle.tp_control.specs.declared.frames.Item.{Item}

@@ -20,10 +20,10 @@ use Rattle.tp_meaning.specs.World as world
 use Rattle.tp_meaning.specs.World.{World, stamped, with_items, world_under}
 use Rattle.tp_meaning.specs.Step.{step}
 use Rattle.tp_meaning.specs.Machine as machine
-use Rattle.tp_meaning.proofs.Applied.{apply-twice}
+use Rattle.tp_meaning.proofs.Unification.Applied.{apply-twice}
 use Rattle.tp_meaning.proofs.OwnGoals.Counts.{fewest-fits}
 use Rattle.tp_store.specs.Contents.{Contents, IsStore, seen, subst_of, args_seen}
-use Rattle.tp_store.proofs.StoreLemmas.{IsSubst-store}
+use Rattle.tp_store.proofs.Standing.Facts.{IsSubst-store}
 use Rattle.tp_control.specs.declared.choices.Alt.TheVariants.{Second}
 use Rattle.tp_control.specs.declared.frames.Item.TheVariants.{Goal}
 use Rattle.tp_state.specs.declared.state.State.{State}
@@ -46,8 +46,8 @@ use Rattle.tp_machine.specs.Goes.{IsKept, MayKeep, Returns}
 use Rattle.tp_machine.specs.Machine.{IsMachine, Resumes, Steps, base_in, world_in}
 use Rattle.tp_machine.specs.Meets.{Calls, IsCall, IsCause}
 use Rattle.tp_machine.specs.Untried.{second_in}
-use Rattle.tp_machine.proofs.Entered.{cells-follow}
-use Rattle.tp_machine.proofs.Grown.{items_still, meets_still, rests, world_still}
+use Rattle.tp_machine.proofs.Enters.Entered.{cells-follow}
+use Rattle.tp_machine.proofs.Grows.Grown.{items_still, meets_still, rests, world_still}
 use Rattle.tp_machine.proofs.Worlds.Items.{list_stands}
 use Rattle.tp_machine.proofs.Step.Arrives.{arrives}
 use Rattle.tp_machine.proofs.Step.Control.{arg-is}

@@ -2,13 +2,13 @@
 use Rattle.std.proofs.Common.{◌≡◌, ℕ, ◌+◌, true, [], ◌∷◌, Some, is_some, ℤ, refl, ap, sym, subst, ◌∙◌}
 use Rattle.tp_terms.specs.Term.{Term, Var, Int, term_size}
 use Rattle.tp_terms.specs.Shown.{shows}
-use Rattle.tp_terms.proofs.NameLemmas.{Grows-same}
+use Rattle.tp_terms.proofs.Naming.Tables.{Grows-same}
 use Rattle.tp_meaning.specs.Subst.{Subst, IsSubst, apply, extended, mgu, rounds, solve_pair, value_at, walk}
 use Rattle.tp_meaning.specs.World.{with_items, world_under}
 use Rattle.tp_meaning.specs.Turn.{going}
-use Rattle.tp_meaning.proofs.Applied.{mgu-solves, solves-over}
+use Rattle.tp_meaning.proofs.Unification.Applied.{mgu-solves, solves-over}
 use Rattle.tp_store.specs.Contents.{Contents, IsStore, seen, subst_of}
-use Rattle.tp_store.proofs.StoreLemmas.{IsSubst-store}
+use Rattle.tp_store.proofs.Standing.Facts.{IsSubst-store}
 use Rattle.tp_state.specs.declared.state.State.{State}
 use Rattle.tp_state.specs.Acts.{resting}
 use Rattle.tp_state.specs.Going.{Follows}

@@ -12,10 +12,10 @@ use Rattle.tp_meaning.specs.Clauses.{Base}
 use Rattle.tp_meaning.specs.Scheduler.{choose}
 use Rattle.tp_meaning.specs.Step.{step, item_step, goal_step, goal_by}
 use Rattle.tp_meaning.specs.Valid.{Valid}
-use Rattle.tp_meaning.proofs.Leaves.{runs-there}
-use Rattle.tp_meaning.proofs.Places.{get-at_place, length-at_place}
+use Rattle.tp_meaning.proofs.ValidWorlds.Leaves.{runs-there}
+use Rattle.tp_meaning.proofs.ValidWorlds.Places.{get-at_place, length-at_place}
 use Rattle.tp_store.specs.Contents.{seen, args_seen}
-use Rattle.tp_store.proofs.StoreLemmas.{count-seen}
+use Rattle.tp_store.proofs.Standing.Facts.{count-seen}
 use Rattle.tp_control.specs.declared.frames.Item.{Item}
 use Rattle.tp_control.specs.declared.frames.Item.TheVariants.{Goal}
 use Rattle.tp_machine.specs.declared.machine.Machine.{Machine}

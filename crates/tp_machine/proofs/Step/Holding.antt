@@ -46,7 +46,7 @@ use Rattle.tp_machine.specs.declared.values.Given.TheVariants.{Time, Refused}
 use Rattle.tp_machine.specs.BuiltIns.{Grew}
 use Rattle.tp_machine.specs.Causes.{domain_word, wrong_domain}
 use Rattle.tp_machine.specs.Times.{IsDuration, IsTime, Lasts, in_domain}
-use Rattle.tp_machine.proofs.Times.{from_zero, grew_calls, grew_value, past_bits, within_bits}
+use Rattle.tp_machine.proofs.Gives.Times.{from_zero, grew_calls, grew_value, past_bits, within_bits}
 use Rattle.tp_machine.proofs.Step.Refuse.{gives_here}
 
 -- an entry of the next insertion number may be put in

@@ -13,9 +13,9 @@ use Rattle.tp_terms.specs.Shown.{AreNamed, name_at, shows}
 use Rattle.tp_terms.specs.StartNames.{start_names}
 use Rattle.tp_terms.specs.Names.{IsTable}
 use Rattle.tp_terms.specs.declared.world.EventKind.{EventKind}
-use Rattle.tp_terms.proofs.NameLemmas.{names_eq-places}
-use Rattle.tp_terms.proofs.ShownLemmas.{AreNamed-push}
-use Rattle.tp_terms.proofs.StartLemmas.{start-name_at, start-within}
+use Rattle.tp_terms.proofs.Naming.Tables.{names_eq-places}
+use Rattle.tp_terms.proofs.Places.Shown.{AreNamed-push}
+use Rattle.tp_terms.proofs.Naming.Start.{start-name_at, start-within}
 use Rattle.tp_procs.specs.Processes.{named}
 use Rattle.tp_meaning.specs.declared.goals.GoalKind.TheVariants.{Process}
 use Rattle.tp_meaning.specs.declared.goals.ProcessGoal.TheVariants as goal
@@ -53,9 +53,9 @@ use Rattle.tp_machine.specs.Machine.{IsMachine, Steps, world_in}
 use Rattle.tp_machine.specs.Making.{HasEnd, HasGoal, HasName, HasStart, IsEnd, IsFree, IsName, IsStart, ending_by, shown_at}
 use Rattle.tp_machine.specs.Meets.{Calls, GivesError, IsCall, IsCause, its_turn}
 use Rattle.tp_machine.specs.Times.{IsTime, in_domain}
-use Rattle.tp_machine.proofs.Grown.{calls_still, seen_still, world_still}
-use Rattle.tp_machine.proofs.Raised.{shows-at, is_empty_list}
-use Rattle.tp_machine.proofs.Times.{grew_seen, grew_value}
+use Rattle.tp_machine.proofs.Grows.Grown.{calls_still, seen_still, world_still}
+use Rattle.tp_machine.proofs.Gives.Raised.{shows-at, is_empty_list}
+use Rattle.tp_machine.proofs.Gives.Times.{grew_seen, grew_value}
 use Rattle.tp_machine.proofs.Worlds.Made.{count-processes, made-stands, made-world, number-named}
 use Rattle.tp_machine.proofs.Worlds.Plans.{planned-stands, planned-world}
 use Rattle.tp_machine.proofs.Worlds.Procs.{noted-stands, noted-world}

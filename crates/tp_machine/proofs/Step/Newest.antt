@@ -4,7 +4,7 @@ use Rattle.tp_control.specs.declared.choices.Choice.{Choice}
 use Rattle.tp_control.specs.Stamps.{newest}
 use Rattle.tp_machine.specs.declared.machine.Machine.{Machine}
 use Rattle.tp_machine.specs.Machine.{IsMachine}
-use Rattle.tp_machine.proofs.Rewound.{newest_first}
+use Rattle.tp_machine.proofs.GoesBack.Rewound.{newest_first}
 
 seam : {A : Type 0} (xs : List A) (x : A) → slice_get (xs ++ x ∷ []) (length xs) ≡ Some x
 seam [] x = refl

@@ -5,16 +5,16 @@ use Rattle.tp_terms.specs.declared.cells.Ref.{Ref}
 use Rattle.tp_terms.specs.Term.{Name, Term}
 use Rattle.tp_terms.specs.Shown.{AreNamed}
 use Rattle.tp_terms.specs.Names.{IsTable, Grows}
-use Rattle.tp_terms.proofs.NameLemmas.{Grows-same, Grows-length}
-use Rattle.tp_terms.proofs.ShownLemmas.{AreNamed-longer}
+use Rattle.tp_terms.proofs.Naming.Tables.{Grows-same, Grows-length}
+use Rattle.tp_terms.proofs.Places.Shown.{AreNamed-longer}
 use Rattle.tp_meaning.specs.World.{World}
 use Rattle.tp_meaning.specs.Turn.{Gives, one}
 use Rattle.tp_meaning.specs.Search as search
 use Rattle.tp_meaning.specs.Step.{step, searched}
 use Rattle.tp_meaning.specs.Machine as machine
 use Rattle.tp_meaning.specs.Machine.{State, Went, stepped, stepped_by, with_choice, cut_from}
-use Rattle.tp_meaning.proofs.Stack.{HasStack, stepped-stack, stack_with}
-use Rattle.tp_meaning.proofs.Holds.{Holds, ChoiceHolds, Stands, stepped-stands, step-rises}
+use Rattle.tp_meaning.proofs.Searching.Stack.{HasStack, stepped-stack, stack_with}
+use Rattle.tp_meaning.proofs.ValidWorlds.Holds.{Holds, ChoiceHolds, Stands, stepped-stands, step-rises}
 use Rattle.tp_parse.specs.declared.read.ReadTerm.{ReadTerm}
 use Rattle.tp_clauses.specs.Contents as kept
 use Rattle.tp_clauses.specs.Contents.{IsBase, base_of}
@@ -34,9 +34,9 @@ use Rattle.tp_state.specs.Stands.{PlainStands}
 use Rattle.tp_machine.specs.Program.{GoalFits}
 use Rattle.tp_machine.specs.Machine.{IsProgram, ChoicesFit, waiting_of, IsMachine, Steps, Resumes, ErrorStands, base_in, world_in, state_in, choices_in, choices_of, answer_by}
 use Rattle.tp_machine.specs.Goes.{KeepsWorlds, IsKept, MayKeep, Goes, Returns, untried_in}
-use Rattle.tp_machine.proofs.Program.{base_fits}
+use Rattle.tp_machine.proofs.Meets.Program.{base_fits}
 use Rattle.tp_machine.proofs.Worlds.Names.{base-later}
-use Rattle.tp_machine.proofs.Choices.{stay_by_acts, choices_stay, fits_stay, choices_later, fits_later, choices_push, fits_push, choice_now, fits_take}
+use Rattle.tp_machine.proofs.GoesBack.Choices.{stay_by_acts, choices_stay, fits_stay, choices_later, fits_later, choices_push, fits_push, choice_now, fits_take}
 
 -- the machine's state, where it didn't go back
 pub state_is : (m : Machine) → m.waiting ≡ None → state_in m ≡ record { world = world_in m; choices = choices_in m }

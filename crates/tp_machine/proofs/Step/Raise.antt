@@ -14,7 +14,7 @@ use Rattle.tp_meaning.specs.World as world
 use Rattle.tp_meaning.specs.Turn.{raised_at}
 use Rattle.tp_meaning.specs.Search as search
 use Rattle.tp_meaning.specs.Step.{step, goal_step}
-use Rattle.tp_meaning.proofs.Places.{get-at_place}
+use Rattle.tp_meaning.proofs.ValidWorlds.Places.{get-at_place}
 use Rattle.tp_store.specs.Contents.{subst_of, seen}
 use Rattle.tp_machine.specs.declared.errors.Cause.{Cause}
 use Rattle.tp_machine.specs.declared.errors.Cause.TheVariants as cause

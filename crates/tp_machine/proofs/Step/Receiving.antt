@@ -7,14 +7,14 @@ use Rattle.tp_terms.specs.declared.cells.Cell.TheVariants as cell
 use Rattle.tp_terms.specs.declared.cells.Ref.{Ref}
 use Rattle.tp_terms.specs.Term.{Name, Term, Var, Int, Atom, Comp, NoMore, More, term_size}
 use Rattle.tp_terms.specs.Shown.{name_at}
-use Rattle.tp_terms.proofs.StartLemmas.{names_eq-start, start-name_at}
-use Rattle.tp_terms.proofs.SymbolLemmas.{start-list_cell, start-empty_list}
+use Rattle.tp_terms.proofs.Naming.Start.{names_eq-start, start-name_at}
+use Rattle.tp_terms.proofs.Naming.Constants.{start-list_cell, start-empty_list}
 use Rattle.tp_meaning.specs.Checks.{Checked, ◌>>=◌, ◌>>◌, ◌if◌, type_error, domain_error, existence_error}
 use Rattle.tp_meaning.specs.Process.{one_receiver, receiver, receivers, receivers_in}
 use Rattle.tp_meaning.specs.World.{World, number_of}
 use Rattle.tp_procs.specs.Processes.{named}
 use Rattle.tp_store.specs.Contents.{IsStore, IsUnbound, seen, seen_cell}
-use Rattle.tp_store.proofs.StoreLemmas.{value-unbound}
+use Rattle.tp_store.proofs.Standing.Facts.{value-unbound}
 use Rattle.tp_state.specs.State.{plain_of}
 use Rattle.tp_machine.specs.declared.errors.Cause.TheVariants as cause
 use Rattle.tp_machine.specs.declared.machine.Machine.{Machine}

@@ -15,7 +15,7 @@ use Rattle.tp_meaning.specs.Turn.{Turn}
 use Rattle.tp_meaning.specs.Step.{goal_by, goal_step}
 use Rattle.tp_meaning.proofs.OwnGoals.Counts.{fewest-fits}
 use Rattle.tp_store.specs.Contents.{Contents, seen, args_seen}
-use Rattle.tp_store.proofs.StoreLemmas.{count-seen}
+use Rattle.tp_store.proofs.Standing.Facts.{count-seen}
 use Rattle.tp_machine.specs.declared.machine.Machine.{Machine}
 use Rattle.tp_machine.specs.declared.errors.Cause.{Cause}
 use Rattle.tp_machine.specs.declared.errors.Cause.TheVariants as cause

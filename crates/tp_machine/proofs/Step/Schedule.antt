@@ -13,7 +13,7 @@ use Rattle.tp_terms.specs.declared.world.Proc.{Proc}
 use Rattle.tp_terms.specs.declared.world.Slot.{Slot}
 use Rattle.tp_terms.specs.declared.world.EventKind.TheVariants as event
 use Rattle.tp_terms.specs.Term.{Name}
-use Rattle.tp_terms.proofs.NameLemmas.{Grows-same}
+use Rattle.tp_terms.proofs.Naming.Tables.{Grows-same}
 use Rattle.tp_meaning.specs.World as world
 use Rattle.tp_meaning.specs.World.{stamped}
 use Rattle.tp_meaning.specs.Turn.{Gives, one}

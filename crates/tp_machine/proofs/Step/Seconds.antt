@@ -17,7 +17,7 @@ use Rattle.tp_meaning.specs.World.{World}
 use Rattle.tp_meaning.specs.Turn.{Turn, going, two, raised_at}
 use Rattle.tp_meaning.specs.Search as search
 use Rattle.tp_store.specs.Contents.{seen, args_seen}
-use Rattle.tp_store.proofs.StoreLemmas.{count-seen}
+use Rattle.tp_store.proofs.Standing.Facts.{count-seen}
 use Rattle.tp_control.specs.declared.choices.Alt.TheVariants.{Second}
 use Rattle.tp_control.specs.declared.frames.Item.{Item}
 use Rattle.tp_control.specs.declared.frames.Item.TheVariants.{Goal, Retry}

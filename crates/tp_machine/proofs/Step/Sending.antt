@@ -20,8 +20,8 @@ use Rattle.tp_meaning.specs.Process.{receivers, sent}
 use Rattle.tp_meaning.specs.World as world
 use Rattle.tp_meaning.specs.Turn.{Turn, going, one}
 use Rattle.tp_meaning.specs.Valid.{AllBelow, Below, ItemsFit, Valid, busy, is_at}
-use Rattle.tp_meaning.proofs.Keeps.{arg-below}
-use Rattle.tp_meaning.proofs.Leaves.{runs-there}
+use Rattle.tp_meaning.proofs.ValidWorlds.Keeps.{arg-below}
+use Rattle.tp_meaning.proofs.ValidWorlds.Leaves.{runs-there}
 use Rattle.tp_meaning.proofs.OwnGoals.Counts.{fewest-fits}
 use Rattle.tp_meaning.proofs.ProcessGoals.Sends.{Known, receivers-known, sent-sent}
 use Rattle.tp_store.specs.Contents.{Contents, seen, args_seen}

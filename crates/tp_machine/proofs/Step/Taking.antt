@@ -5,7 +5,7 @@ use Rattle.tp_terms.specs.declared.cells.Ref.{Ref}
 use Rattle.tp_terms.specs.declared.world.EventKind.TheVariants as event
 use Rattle.tp_terms.specs.Term.{Name, Term, Terms, term_of, count_of}
 use Rattle.tp_terms.specs.Shown.{AreNamed, name_at, shows}
-use Rattle.tp_terms.proofs.NameLemmas.{Grows-same}
+use Rattle.tp_terms.proofs.Naming.Tables.{Grows-same}
 use Rattle.tp_meaning.specs.declared.goals.GoalKind.{GoalKind}
 use Rattle.tp_meaning.specs.declared.goals.GoalKind.TheVariants.{Process}
 use Rattle.tp_meaning.specs.declared.goals.ProcessGoal.TheVariants as goal
@@ -19,12 +19,12 @@ use Rattle.tp_meaning.specs.Step.{step}
 use Rattle.tp_meaning.specs.World as world
 use Rattle.tp_meaning.specs.World.{World, box_at, with_box, with_event, world_under}
 use Rattle.tp_meaning.specs.Turn.{Turn, going}
-use Rattle.tp_meaning.proofs.Applied.{mgu-solves, solves-over}
-use Rattle.tp_meaning.proofs.Leaves.{runs-there}
+use Rattle.tp_meaning.proofs.Unification.Applied.{mgu-solves, solves-over}
+use Rattle.tp_meaning.proofs.ValidWorlds.Leaves.{runs-there}
 use Rattle.tp_mail.specs.Mail.{box_of}
 use Rattle.tp_store.specs.Contents.{Contents, FindsUnifier, IsStore, IsUnifiable, seen, args_seen, subst_of}
 use Rattle.tp_store.specs.Logged.{Logs}
-use Rattle.tp_store.proofs.StoreLemmas.{IsSubst-store, count-seen}
+use Rattle.tp_store.proofs.Standing.Facts.{IsSubst-store, count-seen}
 use Rattle.tp_control.specs.declared.choices.Alt.TheVariants as alt
 use Rattle.tp_control.specs.declared.choices.Choice.{Choice}
 use Rattle.tp_control.specs.declared.frames.Item.{Item}

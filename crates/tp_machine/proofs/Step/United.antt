@@ -5,7 +5,7 @@ use Rattle.tp_terms.specs.declared.cells.Cell.TheVariants as cell
 use Rattle.tp_terms.specs.declared.cells.Ref.{Ref}
 use Rattle.tp_terms.specs.Term.{Name, Term, Int, Atom, term_size}
 use Rattle.tp_terms.specs.Shown.{AreNamed, IsNamed, StandsBefore, shows, shown_from}
-use Rattle.tp_terms.proofs.ShownLemmas.{AreNamed-push}
+use Rattle.tp_terms.proofs.Places.Shown.{AreNamed-push}
 use Rattle.tp_log.specs.declared.entry.Entry.{Entry}
 use Rattle.tp_meaning.specs.declared.DeadCause.TheVariants.{Failed}
 use Rattle.tp_meaning.specs.declared.goals.ProcessGoal.{ProcessGoal}
@@ -15,10 +15,10 @@ use Rattle.tp_meaning.specs.Search.{Dead}
 use Rattle.tp_meaning.specs.Turn.{Gives, going, one, some, unified}
 use Rattle.tp_meaning.specs.Step.{step}
 use Rattle.tp_meaning.specs.Machine as machine
-use Rattle.tp_meaning.proofs.Applied.{apply-twice}
+use Rattle.tp_meaning.proofs.Unification.Applied.{apply-twice}
 use Rattle.tp_store.specs.Contents.{Contents, FindsUnifier, IsStore, IsNumbered, Keeps, AddsCells, seen, subst_of, with_cell}
 use Rattle.tp_store.specs.Logged.{Logs}
-use Rattle.tp_store.proofs.StoreLemmas.{IsSubst-store}
+use Rattle.tp_store.proofs.Standing.Facts.{IsSubst-store}
 use Rattle.tp_control.specs.Lists.{items_at}
 use Rattle.tp_state.specs.declared.state.State.{State}
 use Rattle.tp_state.specs.Acts.{resting}
@@ -33,8 +33,8 @@ use Rattle.tp_machine.specs.Between.{Equals}
 use Rattle.tp_machine.specs.Enters.{Rests}
 use Rattle.tp_machine.specs.Meets.{its_turn}
 use Rattle.tp_machine.specs.Machine.{IsMachine, Steps, base_in, world_in}
-use Rattle.tp_machine.proofs.Grown.{items_still, meets_still, rests, seen_still, world_still}
-use Rattle.tp_machine.proofs.Raised.{shows-at}
+use Rattle.tp_machine.proofs.Grows.Grown.{items_still, meets_still, rests, seen_still, world_still}
+use Rattle.tp_machine.proofs.Gives.Raised.{shows-at}
 use Rattle.tp_machine.proofs.Worlds.Items.{list_stands}
 use Rattle.tp_machine.proofs.Step.Clauses.{mgu-seen}
 use Rattle.tp_machine.proofs.Step.Equal.{equalled}

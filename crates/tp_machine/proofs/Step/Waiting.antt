@@ -5,7 +5,7 @@ use Rattle.tp_terms.specs.declared.cells.Ref.{Ref}
 use Rattle.tp_terms.specs.declared.world.Proc.{Proc}
 use Rattle.tp_terms.specs.Term.{Name, Term, Terms, count_of}
 use Rattle.tp_terms.specs.Shown.{name_at}
-use Rattle.tp_terms.proofs.NameLemmas.{Grows-same}
+use Rattle.tp_terms.proofs.Naming.Tables.{Grows-same}
 use Rattle.tp_meaning.specs.declared.goals.GoalKind.TheVariants.{Process}
 use Rattle.tp_meaning.specs.declared.goals.ProcessGoal.TheVariants as goal
 use Rattle.tp_meaning.specs.Body.{enter}
@@ -18,7 +18,7 @@ use Rattle.tp_meaning.specs.World as world
 use Rattle.tp_meaning.specs.World.{World, let_go, with_status}
 use Rattle.tp_meaning.specs.Turn.{Turn, going, raised_at}
 use Rattle.tp_store.specs.Contents.{Contents, IsStore, seen, args_seen}
-use Rattle.tp_store.proofs.StoreLemmas.{count-seen}
+use Rattle.tp_store.proofs.Standing.Facts.{count-seen}
 use Rattle.tp_control.specs.Lists.{items_at}
 use Rattle.tp_control.specs.declared.choices.Alt.TheVariants.{Second}
 use Rattle.tp_control.specs.declared.frames.Item.TheVariants.{Goal, Commit, Retry}
@@ -43,8 +43,8 @@ use Rattle.tp_machine.specs.Goes.{IsKept, MayKeep, Returns, untried_in}
 use Rattle.tp_machine.specs.Machine.{IsMachine, Resumes, Steps, base_in, waiting, world_in}
 use Rattle.tp_machine.specs.Meets.{Calls, IsCause, Meets}
 use Rattle.tp_machine.specs.Untried.{second_in, untried_by, untried_goal, untried_named}
-use Rattle.tp_machine.proofs.Entering.{refused_store}
-use Rattle.tp_machine.proofs.Grown.{calls_still, entered_still, items_still, meets_still, rests, world_still}
+use Rattle.tp_machine.proofs.Enters.Entering.{refused_store}
+use Rattle.tp_machine.proofs.Grows.Grown.{calls_still, entered_still, items_still, meets_still, rests, world_still}
 use Rattle.tp_machine.proofs.Worlds.Items.{list_stands}
 use Rattle.tp_machine.proofs.Worlds.Procs.{left-stands, left-world, marked-stands, marked-world}
 use Rattle.tp_machine.proofs.Step.Acting.{act-gives, first_is, first_there}

@@ -7,7 +7,7 @@ use Rattle.tp_terms.specs.declared.world.Proc.{Proc}
 use Rattle.tp_terms.specs.Term.{Name}
 use Rattle.tp_meaning.specs.World as world
 use Rattle.tp_meaning.specs.World.{at_place, with_items, stamped}
-use Rattle.tp_meaning.proofs.Places.{all-append, all-weaker, map-same, at_place-over}
+use Rattle.tp_meaning.proofs.ValidWorlds.Places.{all-append, all-weaker, map-same, at_place-over}
 use Rattle.tp_store.specs.Contents.{Contents}
 use Rattle.tp_control.specs.declared.frames.Item.{Item}
 use Rattle.tp_control.specs.Lists.{items_at}

@@ -16,12 +16,12 @@ use Rattle.tp_terms.specs.Events.{KindStands, EventStands}
 use Rattle.tp_terms.specs.Names.{AreDistinct}
 use Rattle.tp_terms.specs.Term.{Name, Term, comp, names_eq}
 use Rattle.tp_terms.specs.Shown.{name_at}
-use Rattle.tp_terms.proofs.NameLemmas.{names_eq-places}
+use Rattle.tp_terms.proofs.Naming.Tables.{names_eq-places}
 use Rattle.tp_procs.specs.Processes.{named}
 use Rattle.tp_meaning.specs.Process.{with_new}
 use Rattle.tp_meaning.specs.World as world
 use Rattle.tp_meaning.specs.World.{at_place, number_of}
-use Rattle.tp_meaning.proofs.Places.{all-append, all-weaker, length-at_place}
+use Rattle.tp_meaning.proofs.ValidWorlds.Places.{all-append, all-weaker, length-at_place}
 use Rattle.tp_store.specs.Contents.{seen}
 use Rattle.tp_control.specs.declared.frames.Item.{Item}
 use Rattle.tp_control.specs.declared.frames.Item.TheVariants.{Goal}

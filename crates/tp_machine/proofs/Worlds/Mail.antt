@@ -14,8 +14,8 @@ use Rattle.tp_mail.specs.Mail.{at_box}
 use Rattle.tp_meaning.specs.Process as meaning
 use Rattle.tp_meaning.specs.World as world
 use Rattle.tp_meaning.specs.World.{at_place, with_box, with_slot, with_status}
-use Rattle.tp_meaning.proofs.Keeps.{status-same}
-use Rattle.tp_meaning.proofs.Places.{all-append, map-set}
+use Rattle.tp_meaning.proofs.ValidWorlds.Keeps.{status-same}
+use Rattle.tp_meaning.proofs.ValidWorlds.Places.{all-append, map-set}
 use Rattle.tp_store.specs.Contents.{Contents, seen}
 use Rattle.tp_state.specs.Acts.{awaits_mail, changed, delivered, noted, planned, posted, roused, taken_out}
 use Rattle.tp_state.specs.Plain.{Plain, box_of, items_of, process_of, processes_of, with_running, world_of}

@@ -10,15 +10,15 @@ use Rattle.tp_terms.specs.declared.world.EventKind.TheVariants as kind
 use Rattle.tp_terms.specs.Term.{Name, Term}
 use Rattle.tp_terms.specs.Names.{Grows}
 use Rattle.tp_terms.specs.Shown.{shows, name_at, AreNamed}
-use Rattle.tp_terms.proofs.NameLemmas.{Grows-shows, Grows-name_at, Grows-length}
-use Rattle.tp_terms.proofs.ShownLemmas.{AreNamed-longer}
+use Rattle.tp_terms.proofs.Naming.Tables.{Grows-shows, Grows-name_at, Grows-length}
+use Rattle.tp_terms.proofs.Places.Shown.{AreNamed-longer}
 use Rattle.tp_meaning.specs.Control.{arg}
 use Rattle.tp_meaning.specs.Subst.{mgu, apply}
 use Rattle.tp_meaning.specs.Clauses.{Base, renamed, head_of}
 use Rattle.tp_meaning.specs.World as world
-use Rattle.tp_meaning.proofs.Places.{all-weaker, all-append, map-same}
+use Rattle.tp_meaning.proofs.ValidWorlds.Places.{all-weaker, all-append, map-same}
 use Rattle.tp_store.specs.Contents.{Contents, subst_of, seen}
-use Rattle.tp_store.proofs.StoreLemmas.{subst_of-names}
+use Rattle.tp_store.proofs.Standing.Facts.{subst_of-names}
 use Rattle.tp_clauses.specs.declared.base.ClauseView.{ClauseView}
 use Rattle.tp_clauses.specs.Contents as kept
 use Rattle.tp_clauses.specs.Contents.{base_of, clause_of, clause_by}

@@ -13,7 +13,7 @@ use Rattle.tp_terms.specs.Term.{Name}
 use Rattle.tp_meaning.specs.World as world
 use Rattle.tp_meaning.specs.World.{at_place, with_status, with_process}
 use Rattle.tp_meaning.specs.Scheduler as scheduler
-use Rattle.tp_meaning.proofs.Places.{all-append, map-set, at_place-same, at_place-both, get-at_place}
+use Rattle.tp_meaning.proofs.ValidWorlds.Places.{all-append, map-set, at_place-same, at_place-both, get-at_place}
 use Rattle.tp_state.specs.Plain.{Plain, items_of, process_of, event_of, kind_of, world_of}
 use Rattle.tp_terms.specs.Events.{KindStands, EventStands}
 use Rattle.tp_state.specs.Stands.{ProcStands, PlainStands}

@@ -10,7 +10,7 @@ use Rattle.tp_terms.specs.Shown.{name_at, AreNamed}
 use Rattle.tp_meaning.specs.Subst.{apply}
 use Rattle.tp_meaning.specs.World as world
 use Rattle.tp_meaning.specs.World.{world_under, item_by, kind_by, event_by, process_by}
-use Rattle.tp_meaning.proofs.Places.{all-weaker, map-same, map-map, map-itself, at_place-map}
+use Rattle.tp_meaning.proofs.ValidWorlds.Places.{all-weaker, map-same, map-map, map-itself, at_place-map}
 use Rattle.tp_store.specs.Contents.{Contents, IsStore, subst_of, seen}
 use Rattle.tp_control.specs.declared.frames.Item.{Item}
 use Rattle.tp_control.specs.declared.frames.Item.TheVariants.{Goal, Commit, Retry}

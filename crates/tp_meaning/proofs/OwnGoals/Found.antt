@@ -5,7 +5,7 @@ use Rattle.tp_terms.specs.Term.{Name}
 use Rattle.tp_terms.specs.Names.{IsTable}
 use Rattle.tp_terms.specs.Shown.{name_at}
 use Rattle.tp_terms.specs.StartNames.{start_names}
-use Rattle.tp_terms.proofs.StartLemmas.{names_eq-start}
+use Rattle.tp_terms.proofs.Naming.Start.{names_eq-start}
 use Rattle.tp_meaning.specs.Goals.{GoalKind, GoalRow, goals, has_count, found_in, goal_kind, kind_of_row}
 use Rattle.tp_meaning.specs.declared.goals.TheConstants.{GOALS}
 

@@ -3,7 +3,7 @@ use Rattle.std.proofs.Common.{◌≡◌, ℕ, Bool, true, false, nat_eq, ◌&&�
 use Rattle.std.specs.Prelude.{IsTrue}
 use Rattle.std.proofs.lemmas.Bool.{eq-eqb}
 use Rattle.tp_terms.specs.Term.{Name, Terms, NoMore, More, names_eq, term_of, count_of}
-use Rattle.tp_terms.proofs.TextLemmas.{names_eq-same}
+use Rattle.tp_terms.proofs.Texts.Equal.{names_eq-same}
 use Rattle.tp_meaning.specs.Goals.{GoalKind, goal_kind}
 use Rattle.tp_meaning.specs.Goals as kind
 use Rattle.tp_meaning.specs.Reserved.{ReservedAreOwn}

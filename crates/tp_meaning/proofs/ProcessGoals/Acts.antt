@@ -8,8 +8,8 @@ use Rattle.tp_meaning.specs.Turn.{Turn, some, unified}
 use Rattle.tp_meaning.specs.Control.{arg}
 use Rattle.tp_meaning.specs.Process.{act}
 use Rattle.tp_meaning.specs.Valid.{Below, AllBelow, EachFollows}
-use Rattle.tp_meaning.proofs.Keeps.{arg-below, some-follow, unified-follows}
-use Rattle.tp_meaning.proofs.Goes.{TurnFits, later}
+use Rattle.tp_meaning.proofs.ValidWorlds.Keeps.{arg-below, some-follow, unified-follows}
+use Rattle.tp_meaning.proofs.ValidWorlds.Goes.{TurnFits, later}
 use Rattle.tp_meaning.proofs.ProcessGoals.Waits.{hold-follows, wait-follows, wait_for-follows, note-follows}
 use Rattle.tp_meaning.proofs.ProcessGoals.Creates.{create-follows}
 use Rattle.tp_meaning.proofs.ProcessGoals.Sends.{send-follows}

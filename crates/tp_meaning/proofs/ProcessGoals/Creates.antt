@@ -12,11 +12,11 @@ use Rattle.tp_meaning.specs.Turn.{Turn, Gives, going}
 use Rattle.tp_meaning.specs.Process as act
 use Rattle.tp_meaning.specs.Process.{new_name, end_of, end_from, not_empty_list, is_inf, with_new, created}
 use Rattle.tp_meaning.specs.Valid.{Below, AreDistinct, IsNew, SlotFits, slots_of, due, KindFits, EventFits, busy, waits_or_runs, is_running, is_at, Valid, EachFollows}
-use Rattle.tp_meaning.proofs.Places.{all-weaker, all-append, length-at_place}
-use Rattle.tp_meaning.proofs.Keeps.{busy-same, after-ok, after-check}
-use Rattle.tp_meaning.proofs.Acts.{int_le-trans}
-use Rattle.tp_meaning.proofs.Leaves.{event-valid}
-use Rattle.tp_meaning.proofs.Goes.{TurnFits, later, goes, known_in}
+use Rattle.tp_meaning.proofs.ValidWorlds.Places.{all-weaker, all-append, length-at_place}
+use Rattle.tp_meaning.proofs.ValidWorlds.Keeps.{busy-same, after-ok, after-check}
+use Rattle.tp_meaning.proofs.ValidWorlds.Acts.{int_le-trans}
+use Rattle.tp_meaning.proofs.ValidWorlds.Leaves.{event-valid}
+use Rattle.tp_meaning.proofs.ValidWorlds.Goes.{TurnFits, later, goes, known_in}
 use Rattle.tp_meaning.proofs.ProcessGoals.Slots.{all-put, order-put, slots-put, le-not_lt, not-lt}
 use Rattle.tp_meaning.proofs.ProcessGoals.Waits.{after-if, always-ok}
 

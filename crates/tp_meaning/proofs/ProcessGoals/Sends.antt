@@ -8,11 +8,11 @@ use Rattle.tp_meaning.specs.Turn.{Turn, going}
 use Rattle.tp_meaning.specs.Process as act
 use Rattle.tp_meaning.specs.Process.{not_empty_list, sent, woken, receiver, receivers, receivers_in, one_receiver}
 use Rattle.tp_meaning.specs.Valid.{Below, due, waits_or_runs, is_running, is_at, Valid, EachFollows}
-use Rattle.tp_meaning.proofs.Places.{all-weaker, all-append, length-at_place}
-use Rattle.tp_meaning.proofs.Keeps.{after-ok, after-check}
-use Rattle.tp_meaning.proofs.Acts.{int_le-refl}
-use Rattle.tp_meaning.proofs.Leaves.{event-valid}
-use Rattle.tp_meaning.proofs.Goes.{TurnFits, later, goes, known_in}
+use Rattle.tp_meaning.proofs.ValidWorlds.Places.{all-weaker, all-append, length-at_place}
+use Rattle.tp_meaning.proofs.ValidWorlds.Keeps.{after-ok, after-check}
+use Rattle.tp_meaning.proofs.ValidWorlds.Acts.{int_le-refl}
+use Rattle.tp_meaning.proofs.ValidWorlds.Leaves.{event-valid}
+use Rattle.tp_meaning.proofs.ValidWorlds.Goes.{TurnFits, later, goes, known_in}
 use Rattle.tp_meaning.proofs.ProcessGoals.Slots.{scheduled-valid}
 use Rattle.tp_meaning.proofs.ProcessGoals.Waits.{always-ok, box-valid}
 

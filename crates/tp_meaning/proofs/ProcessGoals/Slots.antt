@@ -8,9 +8,9 @@ use Rattle.std.proofs.lemmas.Bool.Decides.{Decides-int_eq}
 use Rattle.tp_meaning.specs.World.{World, Process, At, Inf, ProcStatus, Scheduled, Running, AwaitsMail, Ended, Parked, Slot, goes_before, put_slot, at_place, status_at, with_status, with_slot}
 use Rattle.tp_meaning.specs.Scheduler.{is_late}
 use Rattle.tp_meaning.specs.Valid.{SlotFits, IsFirst, InOrder, slots_of, due, busy, waits_or_runs, is_running, is_at, Valid}
-use Rattle.tp_meaning.proofs.Places.{map-at_place, length-at_place, get-at_place, get-at_place-other, all-at_place, all-weaker}
-use Rattle.tp_meaning.proofs.Acts.{all-at_known, known}
-use Rattle.tp_meaning.proofs.Replaced.{or_true}
+use Rattle.tp_meaning.proofs.ValidWorlds.Places.{map-at_place, length-at_place, get-at_place, get-at_place-other, all-at_place, all-weaker}
+use Rattle.tp_meaning.proofs.ValidWorlds.Acts.{all-at_known, known}
+use Rattle.tp_meaning.proofs.Unification.Replaced.{or_true}
 
 -- ---- whole numbers
 

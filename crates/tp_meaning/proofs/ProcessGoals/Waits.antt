@@ -12,11 +12,11 @@ use Rattle.tp_meaning.specs.Turn.{Turn, going, one}
 use Rattle.tp_meaning.specs.Process as act
 use Rattle.tp_meaning.specs.Process.{taken, takes, received}
 use Rattle.tp_meaning.specs.Valid.{Below, due, busy, waits_or_runs, is_at, ItemsFit, Valid, Follows, EachFollows}
-use Rattle.tp_meaning.proofs.Places.{all-append, all-at_place, length-at_place}
-use Rattle.tp_meaning.proofs.Keeps.{after-ok, enter-below}
-use Rattle.tp_meaning.proofs.Under.{Unifies, mgu-unifies, under-valid}
-use Rattle.tp_meaning.proofs.Leaves.{event-valid, marks-valid, runs-there, let_go-valid}
-use Rattle.tp_meaning.proofs.Goes.{TurnFits, later, goes, known_in, stamped-valid, tried-follows, parks}
+use Rattle.tp_meaning.proofs.ValidWorlds.Places.{all-append, all-at_place, length-at_place}
+use Rattle.tp_meaning.proofs.ValidWorlds.Keeps.{after-ok, enter-below}
+use Rattle.tp_meaning.proofs.Unification.Under.{Unifies, mgu-unifies, under-valid}
+use Rattle.tp_meaning.proofs.ValidWorlds.Leaves.{event-valid, marks-valid, runs-there, let_go-valid}
+use Rattle.tp_meaning.proofs.ValidWorlds.Goes.{TurnFits, later, goes, known_in, stamped-valid, tried-follows, parks}
 use Rattle.tp_meaning.proofs.ProcessGoals.Slots.{scheduled-valid}
 
 -- ---- what a check tells

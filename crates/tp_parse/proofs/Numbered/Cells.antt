@@ -8,8 +8,8 @@ use Rattle.tp_terms.specs.declared.cells.Cell.TheVariants as cell
 use Rattle.tp_terms.specs.Term.{Name, Term, Terms, Comp, NoMore, More}
 use Rattle.tp_terms.specs.Names.{Grows}
 use Rattle.tp_terms.specs.Shown.{shows, args_at, shown_from, StandsBefore, IsNamed, AreNamed}
-use Rattle.tp_terms.proofs.ShownLemmas.{shows-append, shows-push, shown_from-append, shown_from-names, AreNamed-longer, AreNamed-append, AreNamed-push, AreNamed-take}
-use Rattle.tp_terms.proofs.NameLemmas.{name_at-slice_get, Grows-length}
+use Rattle.tp_terms.proofs.Places.Shown.{shows-append, shows-push, shown_from-append, shown_from-names, AreNamed-longer, AreNamed-append, AreNamed-push, AreNamed-take}
+use Rattle.tp_terms.proofs.Naming.Tables.{name_at-slice_get, Grows-length}
 use Rattle.tp_parse.specs.Tree.{Tree, Compound, Trees, none, first_of, list_cell}
 use Rattle.tp_parse.specs.Numbers.{Numbers, no_numbers, numbered, all_numbered}
 use Rattle.tp_parse.specs.Steps.{act, run, trees_of, row, linked, count, IsReady, AreReady}

@@ -5,7 +5,7 @@ use Rattle.std.proofs.lemmas.List.Folds.{list_all-append}
 use Rattle.std.specs.List.{list_all, list_any}
 use Rattle.tp_terms.specs.Term.{Name, Term, names_eq}
 use Rattle.tp_terms.specs.Names.{with_name}
-use Rattle.tp_terms.proofs.TextLemmas.{names_eq-same}
+use Rattle.tp_terms.proofs.Texts.Equal.{names_eq-same}
 use Rattle.tp_parse.specs.Tree.{Tree, Trees, Variable, Integer, Atom, Compound, none, first_of, list_cell}
 use Rattle.tp_parse.specs.Numbers.{Numbers, no_numbers, numbered, all_numbered}
 use Rattle.tp_parse.specs.Steps.{act, row, linked, label_name}

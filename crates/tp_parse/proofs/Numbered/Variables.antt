@@ -8,7 +8,7 @@ use Rattle.std.specs.declared.alloc.Global.{Global}
 use Rattle.std.specs.declared.string.String.{String}
 use Rattle.indexmap.specs.IndexMap.{insert_entry}
 use Rattle.tp_terms.specs.Term.{names_eq}
-use Rattle.tp_terms.proofs.TextLemmas.{names_eq-chars}
+use Rattle.tp_terms.proofs.Texts.Equal.{names_eq-chars}
 use Rattle.tp_parse.specs.Numbers.{number_in}
 use Rattle.tp_parse.specs.Variables.{numbers_of}
 

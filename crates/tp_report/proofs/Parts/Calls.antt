@@ -3,7 +3,7 @@ use Rattle.std.proofs.Common.{◌≡◌, ℕ, List, ◌++◌, Result, IsErrAnd, 
 use Rattle.std.specs.declared.alloc.Global.{Global}
 use Rattle.std.specs.declared.string.String.{String}
 use Rattle.tp_terms.specs.Added.{Progress, AddsPrefix, Adds}
-use Rattle.tp_terms.proofs.AddedLemmas.{Adds-as, Adds-exit, Adds-then, begins, goes, stops_within}
+use Rattle.tp_terms.proofs.Texts.Added.{Adds-as, Adds-exit, Adds-then, begins, goes, stops_within}
 
 -- a call that stopped within a part of what was left
 pub part_stops : {A E : Type 0} (Q : E → Type 0) (r : Result A E) (old mid new : String Global) (whole rest part left : List ℕ) → Progress (chars (string_bytes old)) (chars (string_bytes mid)) whole rest → rest ≡ part ++ left → IsErrAnd r Q → AddsPrefix (chars (string_bytes mid)) (chars (string_bytes new)) part → Adds old new r whole

@@ -6,7 +6,7 @@ use Rattle.tp_terms.specs.declared.cells.Cell.TheVariants as cell
 use Rattle.tp_terms.specs.declared.cells.Ref.{Ref}
 use Rattle.tp_terms.specs.Shown.{name_at, shows, shown_from, args_at, StandsBefore, IsNamed}
 use Rattle.tp_terms.specs.Term.{Name, Term, Terms, Comp, NoMore, More, replaced, all_replaced, joined, term_of, args_of, count_of, with_args}
-use Rattle.tp_terms.proofs.ShownLemmas.{shows-append, shows-push, shows-cell, AreNamed-cell}
+use Rattle.tp_terms.proofs.Places.Shown.{shows-append, shows-push, shows-cell, AreNamed-cell}
 use Rattle.tp_meaning.specs.Subst.{Subst, apply, value_at}
 use Rattle.tp_store.specs.declared.chains.End.{End}
 use Rattle.tp_store.specs.declared.join.Parts.{Parts}
@@ -14,7 +14,7 @@ use Rattle.tp_store.specs.Contents.{Contents, AddsCells, IsStore, IsUnbound, sub
 use Rattle.tp_store.specs.Chain.{IsEnd}
 use Rattle.tp_store.specs.Joined.{AddsRow, AreParts, HasRoom, IsCallable, IsGoal, KeepsAtoms, ShowsMore, is_callable}
 use Rattle.tp_store.proofs.Bodies.Converted.{adds_none, adds_both, adds_cell, new_cell, named_more}
-use Rattle.tp_store.proofs.StoreLemmas.{count-seen, value-unbound}
+use Rattle.tp_store.proofs.Standing.Facts.{count-seen, value-unbound}
 use Rattle.tp_store.proofs.Substitution.Kept.{Keeps-adds}
 
 -- ---- a row of copied cells

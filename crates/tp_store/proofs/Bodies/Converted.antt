@@ -13,12 +13,12 @@ use Rattle.tp_terms.specs.Names.{IsTable}
 use Rattle.tp_terms.specs.StartNames.{start_names}
 use Rattle.tp_terms.specs.Shown.{name_at, shows, StandsBefore, AreNamed, IsNamed}
 use Rattle.tp_terms.specs.Term.{Name, Term, Var, Comp, NoMore, More, names_eq, term_size}
-use Rattle.tp_terms.proofs.ShownLemmas.{shows-push, shows-cell, AreNamed-append, AreNamed-cell}
-use Rattle.tp_terms.proofs.NameLemmas.{slice_get-append}
-use Rattle.tp_terms.proofs.StartLemmas.{start-name_at, start-within, names_eq-start}
+use Rattle.tp_terms.proofs.Places.Shown.{shows-push, shows-cell, AreNamed-append, AreNamed-cell}
+use Rattle.tp_terms.proofs.Naming.Tables.{slice_get-append}
+use Rattle.tp_terms.proofs.Naming.Start.{start-name_at, start-within, names_eq-start}
 use Rattle.tp_meaning.specs.Body.{body, joins_goals, pair_body}
 use Rattle.tp_meaning.specs.Subst.{apply, value_at}
-use Rattle.tp_meaning.proofs.Complete.{has_size}
+use Rattle.tp_meaning.proofs.Unification.Complete.{has_size}
 use Rattle.tp_store.specs.declared.body.Form.TheVariants.{Integer, Variable, Pair, Plain}
 use Rattle.tp_store.specs.declared.body.Job.{Job}
 use Rattle.tp_store.specs.declared.body.Job.TheVariants.{Convert, Join}
@@ -28,7 +28,7 @@ use Rattle.tp_store.specs.Chain.{IsEnd}
 use Rattle.tp_store.specs.Work.{AreIn}
 use Rattle.tp_store.specs.Bodies.{joins, compound_form, form_of, pair_of, IsPair, asks_memory, onward, bodies_by, seen_each, AreJobs, AreOwn, AsksMemory, KeepsOwn, jobs_size, Goes, Looked}
 use Rattle.tp_store.proofs.Substitution.Kept.{seen-append, subst_of-append}
-use Rattle.tp_store.proofs.StoreLemmas.{value-unbound}
+use Rattle.tp_store.proofs.Standing.Facts.{value-unbound}
 
 -- ---- cells that are added
 

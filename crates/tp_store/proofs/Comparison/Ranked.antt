@@ -14,14 +14,14 @@ use Rattle.tp_terms.specs.declared.cells.Ref.{Ref}
 use Rattle.tp_terms.specs.Shown.{name_at}
 use Rattle.tp_terms.specs.Term.{Name, Term, Terms, Var, Int, Atom, Comp, NoMore, More, count_of, term_size, terms_size}
 use Rattle.tp_meaning.specs.Order.{name_cmp, term_cmp, terms_cmp}
-use Rattle.tp_meaning.proofs.Complete.{has_size}
+use Rattle.tp_meaning.proofs.Unification.Complete.{has_size}
 use Rattle.tp_store.specs.declared.join.Parts.{Parts}
 use Rattle.tp_store.specs.Contents.{Contents, IsStore, IsUnbound, args_seen, seen, seen_cell}
 use Rattle.tp_store.specs.Work.{ArePairsIn, pairs_from, pairs_size}
 use Rattle.tp_store.specs.Ordered.{Ranks, cells_cmp, compound_in, heads_cmp, pairs_cmp}
 use Rattle.tp_store.proofs.Comparison.Texts.{cmp-same, nat_cmp-same}
 use Rattle.tp_store.proofs.Copies.Rows.{newest_first}
-use Rattle.tp_store.proofs.StoreLemmas.{count-seen, value-unbound}
+use Rattle.tp_store.proofs.Standing.Facts.{count-seen, value-unbound}
 use Rattle.tp_store.proofs.Unifier.Work.{ArePairsIn-pairs_from, ArePairsIn-append, pairs_size-pairs_from, pairs_size-append}
 
 -- ---- orders one after another

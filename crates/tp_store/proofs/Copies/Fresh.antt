@@ -8,12 +8,12 @@ use Rattle.tp_terms.specs.declared.cells.Ref.{Ref}
 use Rattle.tp_terms.specs.Binds.{bound_in}
 use Rattle.tp_terms.specs.Shown.{name_at, shows, shown_from, IsNamed, StandsBefore}
 use Rattle.tp_terms.specs.Term.{Name, Term, Terms, Var, Int, Atom, Comp, NoMore, More, replaced, all_replaced, occurs, occurs_in}
-use Rattle.tp_terms.proofs.NameLemmas.{slice_get-append}
-use Rattle.tp_terms.proofs.ShownLemmas.{shown_from-append, AreNamed-cell}
+use Rattle.tp_terms.proofs.Naming.Tables.{slice_get-append}
+use Rattle.tp_terms.proofs.Places.Shown.{shown_from-append, AreNamed-cell}
 use Rattle.tp_meaning.specs.Copy.{all_variables_after, copy_of, place_in, variables_after, with_variable}
 use Rattle.tp_meaning.specs.Subst.{Subst, apply, value_at}
 use Rattle.tp_meaning.specs.Valid.{Below, AllBelow}
-use Rattle.tp_meaning.proofs.Unify.{either, or_either, replaced-itself}
+use Rattle.tp_meaning.proofs.Unification.Solved.{either, or_either, replaced-itself}
 use Rattle.tp_store.specs.declared.chains.End.{End}
 use Rattle.tp_store.specs.Chain.{IsEnd, MayEndAt}
 use Rattle.tp_store.specs.Contents.{Contents, AddsCells, IsStore, IsUnbound, args_seen, seen, seen_cell, subst_of, with_vars}
@@ -21,7 +21,7 @@ use Rattle.tp_store.specs.Copy.{IsCopiedAs, args_as, copied_from}
 use Rattle.tp_store.specs.Renamed.{AddsTerms, Copies, by_place, renamed_by, renaming}
 use Rattle.tp_store.proofs.Bodies.Converted.{seen-later}
 use Rattle.tp_store.proofs.Copies.Sources.{stands_by}
-use Rattle.tp_store.proofs.StoreLemmas.{bound_within, unbound_above, value-unbound}
+use Rattle.tp_store.proofs.Standing.Facts.{bound_within, unbound_above, value-unbound}
 use Rattle.tp_store.proofs.Substitution.Kept.{Keeps-adds}
 
 -- ---- the variables of a list have a place there

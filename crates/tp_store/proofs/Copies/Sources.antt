@@ -5,10 +5,10 @@ use Rattle.tp_terms.specs.declared.cells.Cell.{Cell}
 use Rattle.tp_terms.specs.declared.cells.Cell.TheVariants as cell
 use Rattle.tp_terms.specs.Term.{Name, Term, Terms, Var, Int, Atom, Comp, NoMore, More, all_replaced, occurs, occurs_in, term_size, terms_size}
 use Rattle.tp_terms.specs.Shown.{name_at, shows, shown_from, args_at, StandsBefore, IsNamed}
-use Rattle.tp_terms.proofs.ShownLemmas.{shows-cell, AreNamed-cell}
+use Rattle.tp_terms.proofs.Places.Shown.{shows-cell, AreNamed-cell}
 use Rattle.tp_meaning.specs.Clauses.{renamed}
 use Rattle.tp_meaning.specs.Valid.{Below, AllBelow}
-use Rattle.tp_meaning.proofs.Complete.{left, right}
+use Rattle.tp_meaning.proofs.Unification.Complete.{left, right}
 use Rattle.tp_store.specs.Copy.{IsClaimed, IsCopiedAs, IsLast, args_as, copied_from, numbered_on, on_from}
 
 -- a cell that can stand before a place can stand before a later one

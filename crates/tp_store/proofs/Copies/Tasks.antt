@@ -9,9 +9,9 @@ use Rattle.tp_terms.specs.declared.cells.Ref.{Ref}
 use Rattle.tp_terms.specs.declared.cells.AtomId.{AtomId}
 use Rattle.tp_terms.specs.Term.{Name, Term, Terms, NoMore, More, Comp, term_size, terms_size, terms_in, terms_of}
 use Rattle.tp_terms.specs.Shown.{name_at, shows, shown_from, args_at, StandsBefore, AreNamed, IsNamed}
-use Rattle.tp_terms.proofs.ShownLemmas.{shows-append, shows-push, shown_from-append, AreNamed-append}
+use Rattle.tp_terms.proofs.Places.Shown.{shows-append, shows-push, shown_from-append, AreNamed-append}
 use Rattle.tp_meaning.specs.Valid.{Below, AllBelow}
-use Rattle.tp_meaning.proofs.Complete.{has_size}
+use Rattle.tp_meaning.proofs.Unification.Complete.{has_size}
 use Rattle.tp_store.specs.declared.copy.Task.{Task}
 use Rattle.tp_store.specs.declared.copy.Task.TheVariants.{Copy, Build}
 use Rattle.tp_store.specs.Contents.{Contents, AddsCells, IsNumbered, with_cell}

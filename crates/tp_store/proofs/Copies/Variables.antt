@@ -10,14 +10,14 @@ use Rattle.tp_terms.specs.declared.cells.Ref.{Ref}
 use Rattle.tp_terms.specs.Shown.{StandsBefore}
 use Rattle.tp_terms.specs.Term.{Name, term_size, terms_size}
 use Rattle.tp_meaning.specs.Copy.{all_variables_after, place_in, variables_after, with_variable}
-use Rattle.tp_meaning.proofs.Complete.{has_size}
+use Rattle.tp_meaning.proofs.Unification.Complete.{has_size}
 use Rattle.tp_store.specs.declared.chains.End.{End}
 use Rattle.tp_store.specs.Chain.{IsEnd}
 use Rattle.tp_store.specs.Contents.{Contents, IsStore, IsUnbound, args_seen, seen, seen_cell}
 use Rattle.tp_store.specs.Renamed.{Collects, variables_each}
 use Rattle.tp_store.specs.Work.{AreIn, places_from, places_size}
 use Rattle.tp_store.proofs.Copies.Rows.{newest_first}
-use Rattle.tp_store.proofs.StoreLemmas.{value-unbound}
+use Rattle.tp_store.proofs.Standing.Facts.{value-unbound}
 use Rattle.tp_store.proofs.Unifier.Work.{AreIn-append, AreIn-places_from, places_size-append, places_size-places_from}
 
 -- ---- the place of a variable

@@ -9,8 +9,8 @@ use Rattle.tp_terms.specs.Term.{Name, Term, Var, replaced, occurs}
 use Rattle.tp_terms.specs.Shown.{shows}
 use Rattle.tp_terms.specs.Binds.{Bindings, bound_in}
 use Rattle.tp_meaning.specs.Subst.{Subst, IsSubst, value_at, apply, extended, for_one, bound_to}
-use Rattle.tp_meaning.proofs.Unify.{differ, value-extended, unbound, put-none, mapped-none, subst_extended, free_applied, replaced-itself}
-use Rattle.tp_meaning.proofs.Complete.{apply-extended}
+use Rattle.tp_meaning.proofs.Unification.Solved.{differ, value-extended, unbound, put-none, mapped-none, subst_extended, free_applied, replaced-itself}
+use Rattle.tp_meaning.proofs.Unification.Complete.{apply-extended}
 use Rattle.tp_store.specs.Contents.{Contents, chained, Adds, AreChained, IsStore}
 use Rattle.tp_store.specs.Chain.{IsTable, LeadsOn, rank}
 

@@ -11,13 +11,13 @@ use Rattle.tp_terms.specs.declared.world.StoreMark.{StoreMark}
 use Rattle.tp_terms.specs.Term.{Name, Term, Terms, Var, Int, Atom, Comp, NoMore, More, occurs, occurs_in}
 use Rattle.tp_terms.specs.Shown.{shows, shown_from, args_at, StandsBefore}
 use Rattle.tp_terms.specs.Binds.{Bindings}
-use Rattle.tp_terms.proofs.ShownLemmas.{shows-cell}
-use Rattle.tp_terms.proofs.NameLemmas.{slice_get-append}
+use Rattle.tp_terms.proofs.Places.Shown.{shows-cell}
+use Rattle.tp_terms.proofs.Naming.Tables.{slice_get-append}
 use Rattle.tp_meaning.specs.Subst.{Subst, apply, for_one}
 use Rattle.tp_meaning.specs.Valid.{Below, AllBelow}
-use Rattle.tp_meaning.proofs.Applied.{apply-empty}
-use Rattle.tp_meaning.proofs.Complete.{apply-extended}
-use Rattle.tp_meaning.proofs.Under.{replaced-below}
+use Rattle.tp_meaning.proofs.Unification.Applied.{apply-empty}
+use Rattle.tp_meaning.proofs.Unification.Complete.{apply-extended}
+use Rattle.tp_meaning.proofs.Unification.Under.{replaced-below}
 use Rattle.tp_store.specs.declared.chains.Chains.{Chains}
 use Rattle.tp_store.specs.Contents.{Contents, chained, seen, AddsCells, AreChained, IsConstant, IsStore}
 use Rattle.tp_store.specs.Chain.{AreBefore, IsBefore, IsChains, IsClosed, IsTable, contents_of}

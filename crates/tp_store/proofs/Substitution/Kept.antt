@@ -11,8 +11,8 @@ use Rattle.tp_terms.specs.declared.world.StoreMark.{StoreMark}
 use Rattle.tp_terms.specs.Term.{Name, occurs}
 use Rattle.tp_terms.specs.Shown.{shows, StandsBefore, AreBuilt}
 use Rattle.tp_terms.specs.Binds.{Bindings, bound_in}
-use Rattle.tp_terms.proofs.ShownLemmas.{shows-append, shows-take}
-use Rattle.tp_terms.proofs.NameLemmas.{slice_get-append, slice_get-push}
+use Rattle.tp_terms.proofs.Places.Shown.{shows-append, shows-take}
+use Rattle.tp_terms.proofs.Naming.Tables.{slice_get-append, slice_get-push}
 use Rattle.tp_meaning.specs.Subst.{apply, extended}
 use Rattle.tp_store.specs.Contents.{Contents, chained, subst_of, seen, Adds, AreChained, IsStore, IsNumbered, AddsCells, CanGoBack, Keeps, cut_to_mark, with_cell, with_vars, with_pair}
 use Rattle.tp_store.specs.Chain.{IsTable, IsChains, IsClosed, contents_of}

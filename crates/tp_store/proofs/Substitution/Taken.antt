@@ -8,8 +8,8 @@ use Rattle.tp_terms.specs.Term.{Name, Term, Terms, Var, Int, Atom, Comp, NoMore,
 use Rattle.tp_terms.specs.Shown.{shows}
 use Rattle.tp_terms.specs.Binds.{Bindings, bound_in}
 use Rattle.tp_meaning.specs.Subst.{Subst, IsSubst, value_at, apply, extended, for_one, bound_to}
-use Rattle.tp_meaning.proofs.Unify.{Over, over_term, over_extended, differ, unbound as itself, value-extended, or_either, either}
-use Rattle.tp_meaning.proofs.Complete.{apply-extended, twice, left, right}
+use Rattle.tp_meaning.proofs.Unification.Solved.{Over, over_term, over_extended, differ, unbound as itself, value-extended, or_either, either}
+use Rattle.tp_meaning.proofs.Unification.Complete.{apply-extended, twice, left, right}
 use Rattle.tp_store.specs.Contents.{Contents, chained, AreChained, IsStore}
 use Rattle.tp_store.specs.Chain.{IsTable}
 use Rattle.tp_store.specs.Logged.{IsBound, without_pair, unbound}

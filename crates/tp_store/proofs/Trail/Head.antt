@@ -5,14 +5,14 @@ use Rattle.tp_terms.specs.declared.cells.Cell.{Cell}
 use Rattle.tp_terms.specs.declared.cells.Ref.{Ref}
 use Rattle.tp_terms.specs.declared.world.StoreMark.{StoreMark}
 use Rattle.tp_terms.specs.Shown.{shows, AreNamed}
-use Rattle.tp_terms.proofs.ShownLemmas.{shows-append}
+use Rattle.tp_terms.proofs.Places.Shown.{shows-append}
 use Rattle.tp_log.specs.declared.entry.Entry.{Entry}
 use Rattle.tp_meaning.specs.Clauses.{renamed}
 use Rattle.tp_meaning.specs.Subst.{mgu}
 use Rattle.tp_store.specs.Contents.{Contents, AddsCells, CanGoBack, FindsUnifier, IsStore, Keeps, cut_to_mark, subst_of}
 use Rattle.tp_store.specs.Copy.{NamesBoth, ShowsCopy}
 use Rattle.tp_store.specs.Logged.{FindsHead, KeepsTerms, Logs, LogsHead}
-use Rattle.tp_store.proofs.StoreLemmas.{can_go_back, went_back}
+use Rattle.tp_store.proofs.Standing.Facts.{can_go_back, went_back}
 
 -- what unifies the copy unifies the term itself
 pub found_head : (old copied now : Contents) (goal at head : Ref) (from : List Cell) (base : ℕ) (found : Bool) → Keeps old copied → goal.at < length old.cells → ShowsCopy from head base copied.cells at → NamesBoth from old.cells copied.cells

@@ -7,9 +7,9 @@ use Rattle.tp_terms.specs.declared.cells.Ref.{Ref}
 use Rattle.tp_terms.specs.Term.{Term, Var, Int, Atom, Comp, occurs}
 use Rattle.tp_meaning.specs.Subst.{Subst, IsSubst, mgu, apply, value_at, bound_to}
 use Rattle.tp_meaning.specs.Unifier.{Mgu}
-use Rattle.tp_meaning.proofs.Unify.{unbound, replaced-itself, differ}
-use Rattle.tp_meaning.proofs.Complete.{mgu_full}
-use Rattle.tp_meaning.proofs.OneUnifier.{values-same, mgu-is, one_unifier}
+use Rattle.tp_meaning.proofs.Unification.Solved.{unbound, replaced-itself, differ}
+use Rattle.tp_meaning.proofs.Unification.Complete.{mgu_full}
+use Rattle.tp_meaning.proofs.Unification.OneUnifier.{values-same, mgu-is, one_unifier}
 use Rattle.tp_terms.specs.declared.NoMemory.{NoMemory}
 use Rattle.tp_terms.specs.Term.{Name}
 use Rattle.tp_terms.specs.Shown.{shows}

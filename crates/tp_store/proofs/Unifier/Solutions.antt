@@ -8,14 +8,14 @@ use Rattle.tp_terms.specs.Shown.{shows}
 use Rattle.tp_terms.specs.Term.{Name, Term, Var, Int, Atom, Comp, replaced, occurs}
 use Rattle.tp_terms.specs.Binds.{Bindings, bound_in}
 use Rattle.tp_meaning.specs.Subst.{Subst, IsSubst, apply, value_at, extended, for_one, bound_to}
-use Rattle.tp_meaning.proofs.Unify.{over_term, over_extended, value-extended, unbound, idem_over}
-use Rattle.tp_meaning.proofs.Applied.{apply-twice}
-use Rattle.tp_meaning.proofs.Replaced.{replaced-replaced, replaced-same}
+use Rattle.tp_meaning.proofs.Unification.Solved.{over_term, over_extended, value-extended, unbound, idem_over}
+use Rattle.tp_meaning.proofs.Unification.Applied.{apply-twice}
+use Rattle.tp_meaning.proofs.Unification.Replaced.{replaced-replaced, replaced-same}
 use Rattle.tp_store.specs.Contents.{Contents, chained, subst_of, seen, seen_cell, Adds, IsStore, IsUnbound, AddsPairs, with_pair}
 use Rattle.tp_store.specs.Work.{Extends, ArePairsIn, Each, MayBind, Reduces, IsGeneral, unbound_count}
 use Rattle.tp_store.specs.Chain.{rank, IsTable}
 use Rattle.tp_store.proofs.Substitution.Chained.{unnamed, IsSubst-chained}
-use Rattle.tp_store.proofs.FitsLemmas.{no_cycle}
+use Rattle.tp_store.proofs.Standing.Fits.{no_cycle}
 use Rattle.tp_store.proofs.Unifier.Work.{end_shows}
 use Rattle.tp_store.proofs.Unifier.Steps.{over_of}
 

@@ -5,8 +5,8 @@ use Rattle.tp_terms.specs.declared.cells.Ref.{Ref}
 use Rattle.tp_terms.specs.Shown.{shows, shown_from}
 use Rattle.tp_terms.specs.Term.{Name, Term, replaced, occurs, term_size}
 use Rattle.tp_meaning.specs.Subst.{Subst}
-use Rattle.tp_meaning.proofs.Unify.{Over, over_term}
-use Rattle.tp_meaning.proofs.Replaced.{or_true}
+use Rattle.tp_meaning.proofs.Unification.Solved.{Over, over_term}
+use Rattle.tp_meaning.proofs.Unification.Replaced.{or_true}
 use Rattle.tp_store.specs.declared.pairs.Pair.{Pair}
 use Rattle.tp_store.specs.declared.pairs.Pair.TheVariants.{Same, Clash, Bind}
 use Rattle.tp_store.specs.Contents.{Contents, Names, subst_of, seen, seen_cell}

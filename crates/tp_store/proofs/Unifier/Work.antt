@@ -9,12 +9,12 @@ use Rattle.tp_terms.specs.declared.cells.AtomId.{AtomId}
 use Rattle.tp_terms.specs.declared.cells.Cell.TheVariants as cell
 use Rattle.tp_terms.specs.Shown.{name_at, shows, shown_from, args_at, StandsBefore, IsNamed}
 use Rattle.tp_terms.specs.Term.{Name, Term, Terms, Var, Atom, Comp, More, replaced, all_replaced, occurs, occurs_in, term_size, terms_size, count_of}
-use Rattle.tp_terms.proofs.ShownLemmas.{shows-cell, AreNamed-cell}
-use Rattle.tp_terms.proofs.NameLemmas.{same_place}
+use Rattle.tp_terms.proofs.Places.Shown.{shows-cell, AreNamed-cell}
+use Rattle.tp_terms.proofs.Naming.Tables.{same_place}
 use Rattle.tp_terms.specs.Binds.{bound_in}
 use Rattle.tp_meaning.specs.Subst.{value_at}
-use Rattle.tp_meaning.proofs.Unify.{unbound, flip_eq}
-use Rattle.tp_meaning.proofs.Complete.{has_size, count-replaced}
+use Rattle.tp_meaning.proofs.Unification.Solved.{unbound, flip_eq}
+use Rattle.tp_meaning.proofs.Unification.Complete.{has_size, count-replaced}
 use Rattle.tp_store.specs.declared.chains.End.{End}
 use Rattle.tp_store.specs.declared.pairs.Pair.{Pair}
 use Rattle.tp_store.specs.declared.pairs.Pair.TheVariants.{Same, Clash, Bind}

@@ -3,8 +3,8 @@ use Rattle.std.proofs.lemmas.Result.{err_from_is_err_and}
 use Rattle.clap.specs.Words.{found_of, rows_of}
 use Rattle.tp_words.specs.Asked.{asked_request}
 use Rattle.tp_words.specs.Command.{words_of}
-use Rattle.tp_words.proofs.CommandLemmas.{usage_only}
-use Rattle.tp_words.proofs.RequestLemmas.{matched_request, unmatched_request}
+use Rattle.tp_words.proofs.ReadsWords.Parsed.{usage_only}
+use Rattle.tp_words.proofs.ReadsWords.Requests.{matched_request, unmatched_request}
 use Rattle.tp_words.proofs.read_words.Goals as goal
 
 pub returns-in_err-matches-clause-usage : goal.returns-in_err-matches-clause-usage

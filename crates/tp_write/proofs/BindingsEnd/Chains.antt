@@ -7,7 +7,7 @@ use Rattle.tp_terms.specs.declared.cells.Ref.{Ref}
 use Rattle.tp_terms.specs.Term.{Name, Term, Var, Comp, NoMore, More, occurs, replaced, term_size}
 use Rattle.tp_terms.specs.Shown.{shows, shown_from, StandsBefore}
 use Rattle.tp_terms.specs.Binds.{Bindings, bound_in, Fits}
-use Rattle.tp_terms.proofs.ShownLemmas.{shows-cell, AreNamed-cell}
+use Rattle.tp_terms.proofs.Places.Shown.{shows-cell, AreNamed-cell}
 use Rattle.tp_write.specs.declared.pieces.End.{End}
 use Rattle.tp_write.specs.Under.{under}
 use Rattle.tp_write.specs.Work.{cell_term, next_of, Ends}

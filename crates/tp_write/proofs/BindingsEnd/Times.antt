@@ -6,7 +6,7 @@ use Rattle.tp_terms.specs.declared.cells.Ref.{Ref}
 use Rattle.tp_terms.specs.Term.{Term, Terms, Var, Int, Atom, Comp, NoMore, More, occurs, occurs_in, replaced, all_replaced}
 use Rattle.tp_terms.specs.Shown.{shows}
 use Rattle.tp_terms.specs.Binds.{Bindings, bound_in, LeadsAtOnce, Leads, at_once, Fits}
-use Rattle.tp_terms.proofs.BindsLemmas.{Leads-trans}
+use Rattle.tp_terms.proofs.Places.Bound.{Leads-trans}
 
 -- ---- replaced variables
 

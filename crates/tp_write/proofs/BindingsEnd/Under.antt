@@ -6,7 +6,7 @@ use Rattle.tp_terms.specs.declared.cells.Ref.{Ref}
 use Rattle.tp_terms.specs.Term.{Name, Term, Var, Comp, More, occurs, replaced, all_replaced}
 use Rattle.tp_terms.specs.Shown.{shows, args_at}
 use Rattle.tp_terms.specs.Binds.{Bindings, bound_in, Fits}
-use Rattle.tp_terms.proofs.BindsLemmas.{occurs-shows}
+use Rattle.tp_terms.proofs.Places.Bound.{occurs-shows}
 use Rattle.tp_write.specs.Under.{step_of, stepped, followed, under}
 use Rattle.tp_write.specs.Work.{unders}
 use Rattle.tp_write.proofs.BindingsEnd.Times.{times, times-each, times-unbound, times-bound, settled-stays, settles-all, Follows, replaced-agree, replaced-twice}

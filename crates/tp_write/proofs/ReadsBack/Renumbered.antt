@@ -5,7 +5,7 @@ use Rattle.std.specs.Str.Parse.{digits_value}
 use Rattle.std.proofs.lemmas.Fmt.{decimal_is_IsNumeral}
 use Rattle.std.proofs.lemmas.Bool.{eqb-true, eqb-false}
 use Rattle.tp_terms.specs.Term.{Name, Term, Terms, Var, Int, Atom, Comp, NoMore, More, names_eq, replaced, all_replaced}
-use Rattle.tp_terms.proofs.TextLemmas.{names_eq-same, names_eq-apart}
+use Rattle.tp_terms.proofs.Texts.Equal.{names_eq-same, names_eq-apart}
 use Rattle.tp_parse.specs.Numbers.{Numbers, no_numbers, number_in, known_number, number_of, numbered, all_numbered}
 use Rattle.tp_write.specs.Back.{IsReadable, AreReadable, variables, all_variables, with_new, first_occurrences, place_in, renumbered}
 use Rattle.tp_write.proofs.ReadsBack.Pieces.{variable_name, tree_of, trees_of}

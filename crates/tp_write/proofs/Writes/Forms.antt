@@ -7,8 +7,8 @@ use Rattle.tp_terms.specs.declared.cells.Cell.TheVariants as cell
 use Rattle.tp_terms.specs.Term.{Name, names_eq}
 use Rattle.tp_terms.specs.Shown.{name_at}
 use Rattle.tp_terms.specs.Binds.{Bindings}
-use Rattle.tp_terms.proofs.NameLemmas.{name_at-slice_get}
-use Rattle.tp_terms.proofs.TextLemmas.{names_eq-chars}
+use Rattle.tp_terms.proofs.Naming.Tables.{name_at-slice_get}
+use Rattle.tp_terms.proofs.Texts.Equal.{names_eq-chars}
 use Rattle.tp_parse.specs.Table.{Op, Table, left_bound}
 use Rattle.tp_write.specs.declared.pieces.Form.{Form}
 use Rattle.tp_write.specs.declared.pieces.Form.TheVariants.{Listed, Braces, Infix, Prefix, Plain}

@@ -3,13 +3,13 @@ use Rattle.std.proofs.Common.{◌≡◌, ◌≢◌, ℕ, Bool, true, false, not,
 use Rattle.std.proofs.lemmas.Bool.{eqb-true, ltb-true, lt-ltb, le-ltb, cases_eq}
 use Rattle.std.specs.Char.{digit_char}
 use Rattle.std.specs.Fmt.{digits}
-use Rattle.tp_terms.proofs.TextLemmas.{names_eq-true, names_eq-apart, same_bytes}
+use Rattle.tp_terms.proofs.Texts.Equal.{names_eq-true, names_eq-apart, same_bytes}
 use Rattle.tp_write.specs.Names.{code_escape, escape_start, is_control, is_solo, is_graphic_name, begins_comment, all_escaped, escaped, quoted}
 use Rattle.std.proofs.lemmas.Str.{IsUtf8-from_is_utf8}
 use Rattle.std.specs.Str.{IsUtf8, is_utf8, chars}
 use Rattle.tp_terms.specs.Term.{Name, names_eq}
 use Rattle.tp_terms.specs.Added.{Progress, AddsPrefix}
-use Rattle.tp_terms.proofs.AddedLemmas.{begins, goes, stops_within}
+use Rattle.tp_terms.proofs.Texts.Added.{begins, goes, stops_within}
 use Rattle.tp_lex.specs.Characters.{dot, quote, is_graphic}
 use Rattle.std.specs.List.{list_all}
 

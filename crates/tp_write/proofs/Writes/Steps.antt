@@ -9,8 +9,8 @@ use Rattle.tp_terms.specs.Term.{Name}
 use Rattle.tp_terms.specs.Shown.{StandsBefore, AreNamed}
 use Rattle.tp_terms.specs.Added.{Progress, AddsPrefix}
 use Rattle.tp_terms.specs.Binds.{Bindings}
-use Rattle.tp_terms.proofs.AddedLemmas.{begins, goes, ends, stops_within}
-use Rattle.tp_terms.proofs.NameLemmas.{name_at-slice_get}
+use Rattle.tp_terms.proofs.Texts.Added.{begins, goes, ends, stops_within}
+use Rattle.tp_terms.proofs.Naming.Tables.{name_at-slice_get}
 use Rattle.tp_parse.specs.Table.{Table}
 use Rattle.tp_write.specs.declared.pieces.End.{End}
 use Rattle.tp_write.specs.declared.pieces.Position.{Position}

@@ -6,8 +6,8 @@ use Rattle.tp_meaning.specs.Arith.{evaluated}
 use Rattle.tp_meaning.specs.Heap.{seen}
 use Rattle.tp_arith.specs.declared.evaluate.Next.TheVariants.{Give}
 use Rattle.tp_arith.specs.Work.{AreWaiting, Gives, finished, outcome, all_weight}
-use Rattle.tp_arith.proofs.Bounds.{bits_of, bits_of-fits}
-use Rattle.tp_arith.proofs.Steps.{newest-of, stopped-gives}
+use Rattle.tp_arith.proofs.Evaluation.Bounds.{bits_of, bits_of-fits}
+use Rattle.tp_arith.proofs.Evaluation.Steps.{newest-of, stopped-gives}
 use Rattle.tp_arith.proofs.evaluate.evaluate.Goals as goal
 
 pub returns-in_err-next-in-Give : goal.returns-in_err-next-in-Give

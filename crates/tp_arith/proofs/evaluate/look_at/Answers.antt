@@ -8,8 +8,8 @@ use Rattle.tp_arith.specs.declared.evaluate.Waiting.{Waiting}
 use Rattle.tp_arith.specs.declared.evaluate.Waiting.TheVariants.{Unary, Left}
 use Rattle.tp_arith.specs.declared.evaluate.Next.TheVariants.{Look, Give}
 use Rattle.tp_arith.specs.Work.{GoesOn, operation_in, outcome, all_weight}
-use Rattle.tp_arith.proofs.Bounds.{bits_of-fits}
-use Rattle.tp_arith.proofs.Steps.{newest, looks-int, looks-unbound, looks-atom, looks-none, looks-unary, looks-binary}
+use Rattle.tp_arith.proofs.Evaluation.Bounds.{bits_of-fits}
+use Rattle.tp_arith.proofs.Evaluation.Steps.{newest, looks-int, looks-unbound, looks-atom, looks-none, looks-unary, looks-binary}
 use Rattle.tp_arith.proofs.evaluate.look_at.Goals as goal
 
 pub returns-in-Int : goal.returns-in-Int

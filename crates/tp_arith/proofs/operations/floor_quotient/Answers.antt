@@ -1,4 +1,4 @@
-use Rattle.tp_arith.proofs.Divisions.{told-divides-below, told-divides-above}
+use Rattle.tp_arith.proofs.Evaluation.Divisions.{told-divides-below, told-divides-above}
 use Rattle.tp_arith.specs.Errors.{told}
 use Rattle.tp_arith.proofs.operations.floor_quotient.Goals as goal
 

@@ -1,4 +1,4 @@
-use Rattle.tp_arith.proofs.Divisions.{told-leaves-below, told-leaves-above}
+use Rattle.tp_arith.proofs.Evaluation.Divisions.{told-leaves-below, told-leaves-above}
 use Rattle.tp_arith.specs.Errors.{told}
 use Rattle.tp_arith.proofs.operations.modulus.Goals as goal
 

@@ -1,4 +1,4 @@
-use Rattle.tp_arith.proofs.Shifts.{told-shift, told-shift-early}
+use Rattle.tp_arith.proofs.Evaluation.Shifts.{told-shift, told-shift-early}
 use Rattle.std.proofs.Common.{ap, ◌∙◌}
 use Rattle.tp_arith.specs.Errors.{told}
 use Rattle.tp_arith.proofs.operations.shift_left.Goals as goal

@@ -3,7 +3,7 @@ use Rattle.tp_terms.specs.declared.cells.Cell.TheVariants as cell
 use Rattle.tp_terms.specs.declared.symbols.TheConstants.{INSTANTIATION_ERROR}
 use Rattle.tp_meaning.specs.Heap.{Makes}
 use Rattle.tp_arith.specs.Errors.{fault_kind}
-use Rattle.tp_arith.proofs.KindLemmas.{unbound-made}
+use Rattle.tp_arith.proofs.Evaluation.Kinds.{unbound-made}
 use Rattle.tp_arith.proofs.raising.kind_of.Goals as goal
 
 pub returns-in-Unbound-clause-made : goal.returns-in-Unbound-clause-made

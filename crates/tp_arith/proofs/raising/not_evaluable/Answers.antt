@@ -1,7 +1,7 @@
 use Rattle.std.proofs.Common.{arith}
 use Rattle.tp_terms.specs.declared.symbols.TheConstants.{EVALUABLE, SLASH, TYPE_ERROR}
-use Rattle.tp_terms.proofs.StartLemmas.{start-within}
-use Rattle.tp_arith.proofs.KindLemmas.{not_evaluable-made, start-stands}
+use Rattle.tp_terms.proofs.Naming.Start.{start-within}
+use Rattle.tp_arith.proofs.Evaluation.Kinds.{not_evaluable-made, start-stands}
 use Rattle.tp_arith.proofs.raising.not_evaluable.Goals as goal
 
 pub compound_of_two-requires-clause-name : goal.compound_of_two-requires-clause-name

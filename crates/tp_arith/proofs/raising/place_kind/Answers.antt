@@ -1,4 +1,4 @@
-use Rattle.tp_arith.proofs.KindLemmas.{kind-placed}
+use Rattle.tp_arith.proofs.Evaluation.Kinds.{kind-placed}
 use Rattle.tp_arith.proofs.raising.place_kind.Goals as goal
 
 pub returns-clause-raised : goal.returns-clause-raised

@@ -1,8 +1,8 @@
 use Rattle.std.proofs.Common.{sym, ap, ◌∙◌, arith, codes}
 use Rattle.tp_terms.specs.declared.symbols.TheConstants.{INT_OVERFLOW, ZERO_DIVISOR, UNDEFINED}
-use Rattle.tp_terms.proofs.StartLemmas.{start-within}
+use Rattle.tp_terms.proofs.Naming.Start.{start-within}
 use Rattle.tp_arith.specs.Errors.{evaluation_kind}
-use Rattle.tp_arith.proofs.KindLemmas.{evaluation-word, start-int_overflow, start-zero_divisor, start-undefined}
+use Rattle.tp_arith.proofs.Evaluation.Kinds.{evaluation-word, start-int_overflow, start-zero_divisor, start-undefined}
 use Rattle.tp_arith.proofs.raising.word_of.Goals as goal
 
 pub returns-in-Overflow-clause-within : goal.returns-in-Overflow-clause-within

@@ -3,7 +3,7 @@ use Rattle.std.proofs.lemmas.Result.{err_from_is_err_and}
 use Rattle.std.proofs.lemmas.Int.{to_z-of_z}
 use Rattle.tp_meaning.specs.Checks.{natural}
 use Rattle.tp_build.specs.Errors.{IsFault}
-use Rattle.tp_build.proofs.ArgumentLemmas.{picks, picks-no_args, picks-no_number, places-of}
+use Rattle.tp_build.proofs.RowAnswers.Argument.{picks, picks-no_args, picks-no_number, places-of}
 use Rattle.tp_build.proofs.argument.chosen.Goals as goal
 
 pub nth-requires : goal.nth-requires

@@ -3,7 +3,7 @@ use Rattle.tp_meaning.specs.Heap.{seen}
 use Rattle.tp_build.specs.Builtin.{compares}
 use Rattle.tp_build.specs.declared.outcome.Outcome.TheVariants as outcome
 use Rattle.tp_build.specs.Answers.{Does}
-use Rattle.tp_build.proofs.Rows.{compares-known, compares-raised-by}
+use Rattle.tp_build.proofs.RowAnswers.Heaps.{compares-known, compares-raised-by}
 use Rattle.tp_build.proofs.arithmetic.compare_values.Goals as goal
 
 pub returns-in-Ok-clause-does : goal.returns-in-Ok-clause-does

@@ -7,7 +7,7 @@ use Rattle.tp_meaning.specs.Heap.{seen}
 use Rattle.tp_build.specs.declared.outcome.Outcome.TheVariants as outcome
 use Rattle.tp_build.specs.Answers.{Does, unifies}
 use Rattle.tp_meaning.specs.Builtin.{is_value}
-use Rattle.tp_build.proofs.Rows.{IfOk-map, is-known, is-raised-by}
+use Rattle.tp_build.proofs.RowAnswers.Heaps.{IfOk-map, is-known, is-raised-by}
 use Rattle.tp_build.proofs.arithmetic.evaluate_and_unify.Goals as goal
 
 pub returns-in-Ok-clause-does : goal.returns-in-Ok-clause-does

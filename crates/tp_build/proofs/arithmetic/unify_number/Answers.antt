@@ -5,7 +5,7 @@ use Rattle.std.proofs.lemmas.Int.{to_z-of_z}
 use Rattle.tp_terms.specs.Term.{Int}
 use Rattle.tp_meaning.specs.Heap.{seen}
 use Rattle.tp_build.specs.Answers.{Does, unifies}
-use Rattle.tp_build.proofs.Rows.{does-number}
+use Rattle.tp_build.proofs.RowAnswers.Heaps.{does-number}
 use Rattle.tp_build.proofs.arithmetic.unify_number.Goals as goal
 
 pub returns-clause-does : goal.returns-clause-does

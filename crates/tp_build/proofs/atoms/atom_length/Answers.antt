@@ -1,6 +1,6 @@
 use Rattle.std.proofs.Common.{◌≡◌, pos, SFits, w64, rules, ap, ◌∙◌}
 use Rattle.std.proofs.lemmas.Int.{to_z-of_z}
-use Rattle.tp_build.proofs.Rows.{length-does}
+use Rattle.tp_build.proofs.RowAnswers.Heaps.{length-does}
 use Rattle.tp_build.proofs.atoms.atom_length.Goals as goal
 
 pub raise-requires-clause-fault : goal.raise-requires-clause-fault

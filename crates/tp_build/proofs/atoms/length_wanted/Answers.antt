@@ -1,4 +1,4 @@
-use Rattle.tp_build.proofs.CheckLemmas.{length-unbound}
+use Rattle.tp_build.proofs.PlacesShow.Checked.{length-unbound}
 use Rattle.tp_build.proofs.atoms.length_wanted.Goals as goal
 
 pub returns-in-Var : goal.returns-in-Var

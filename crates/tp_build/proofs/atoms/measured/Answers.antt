@@ -1,5 +1,5 @@
 use Rattle.std.proofs.lemmas.Result.{err_from_is_err_and}
-use Rattle.tp_build.proofs.CheckLemmas.{measures-no_name}
+use Rattle.tp_build.proofs.PlacesShow.Checked.{measures-no_name}
 use Rattle.tp_build.proofs.atoms.measured.Goals as goal
 
 pub returns-in_err-name : goal.returns-in_err-name

@@ -1,4 +1,4 @@
-use Rattle.tp_build.proofs.CheckLemmas.{atomic-found}
+use Rattle.tp_build.proofs.PlacesShow.Checked.{atomic-found}
 use Rattle.tp_build.proofs.checks.atomic.Goals as goal
 
 pub returns-in_default : goal.returns-in_default

@@ -1,4 +1,4 @@
-use Rattle.tp_build.proofs.CheckLemmas.{bound-variable}
+use Rattle.tp_build.proofs.PlacesShow.Checked.{bound-variable}
 use Rattle.tp_build.proofs.checks.bound.Goals as goal
 
 pub returns-in-Var : goal.returns-in-Var

@@ -1,4 +1,4 @@
-use Rattle.tp_build.proofs.CheckLemmas.{integer-other}
+use Rattle.tp_build.proofs.PlacesShow.Checked.{integer-other}
 use Rattle.tp_build.proofs.checks.integer.Goals as goal
 
 pub returns-in_default : goal.returns-in_default

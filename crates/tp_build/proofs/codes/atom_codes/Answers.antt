@@ -1,5 +1,5 @@
 use Rattle.tp_meaning.specs.Heap.{seen}
-use Rattle.tp_build.proofs.CodesLemmas.{codes-variable}
+use Rattle.tp_build.proofs.RowAnswers.Codes.{codes-variable}
 use Rattle.tp_build.proofs.codes.atom_codes.Goals as goal
 
 pub returns-in-Var-clause-does : goal.returns-in-Var-clause-does

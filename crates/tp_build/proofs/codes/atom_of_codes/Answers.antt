@@ -1,7 +1,7 @@
 use Rattle.std.proofs.Common.{ap, subst, chars}
 use Rattle.tp_meaning.specs.Heap.{seen}
 use Rattle.tp_build.specs.Codes.{IsSpelled, text_chars}
-use Rattle.tp_build.proofs.CodesLemmas.{text-fails, end-fails, text-does}
+use Rattle.tp_build.proofs.RowAnswers.Codes.{text-fails, end-fails, text-does}
 use Rattle.tp_build.proofs.codes.atom_of_codes.Goals as goal
 
 pub returns-in-Err-clause-does : goal.returns-in-Err-clause-does

@@ -3,7 +3,7 @@ use Rattle.std.proofs.lemmas.Int.{to_z-of_z}
 use Rattle.tp_meaning.specs.Checks.{natural}
 use Rattle.tp_meaning.specs.Answers.{character}
 use Rattle.tp_build.specs.Errors.{Finds, IsFault, itself}
-use Rattle.tp_build.proofs.CodesLemmas.{natural-is, character-none}
+use Rattle.tp_build.proofs.RowAnswers.Codes.{natural-is, character-none}
 use Rattle.tp_build.proofs.codes.character.Goals as goal
 
 pub returns-in-Ok : goal.returns-in-Ok

@@ -3,7 +3,7 @@ use Rattle.std.proofs.lemmas.Int.{to_z-of_z}
 use Rattle.tp_meaning.specs.Heap.{seen}
 use Rattle.tp_meaning.specs.Answers.{character}
 use Rattle.tp_build.specs.Errors.{Finds, itself}
-use Rattle.tp_build.proofs.CodesLemmas.{character-of}
+use Rattle.tp_build.proofs.RowAnswers.Codes.{character-of}
 use Rattle.tp_build.proofs.codes.character_of.Goals as goal
 
 pub returns : goal.returns

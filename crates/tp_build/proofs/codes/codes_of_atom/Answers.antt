@@ -1,5 +1,5 @@
 use Rattle.std.proofs.Common.{◌∙◌}
-use Rattle.tp_build.proofs.CodesLemmas.{codes-does}
+use Rattle.tp_build.proofs.RowAnswers.Codes.{codes-does}
 use Rattle.tp_build.proofs.codes.codes_of_atom.Goals as goal
 
 pub returns-clause-does : goal.returns-clause-does

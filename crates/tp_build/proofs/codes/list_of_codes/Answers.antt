@@ -1,5 +1,5 @@
 use Rattle.std.proofs.Common.{arith}
-use Rattle.tp_build.proofs.CodesLemmas.{codes-none}
+use Rattle.tp_build.proofs.RowAnswers.Codes.{codes-none}
 use Rattle.tp_build.proofs.codes.list_of_codes.Goals as goal
 
 pub loop-left-init : goal.loop-left-init

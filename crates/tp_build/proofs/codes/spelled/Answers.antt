@@ -1,7 +1,7 @@
 use Rattle.std.proofs.Common.{map, arith}
 use Rattle.tp_build.specs.Codes.{all_characters}
 use Rattle.tp_build.specs.Lists.{place_seen}
-use Rattle.tp_build.proofs.CodesLemmas.{spelled-none}
+use Rattle.tp_build.proofs.RowAnswers.Codes.{spelled-none}
 use Rattle.tp_build.proofs.codes.spelled.Goals as goal
 
 pub loop-read-init : goal.loop-read-init

@@ -1,4 +1,4 @@
-use Rattle.tp_build.proofs.CodesLemmas.{atom-does}
+use Rattle.tp_build.proofs.RowAnswers.Codes.{atom-does}
 use Rattle.tp_build.proofs.codes.unify_atom.Goals as goal
 
 pub returns-clause-does : goal.returns-clause-does

@@ -1,4 +1,4 @@
-use Rattle.tp_build.proofs.Rows.{two-does}
+use Rattle.tp_build.proofs.RowAnswers.Heaps.{two-does}
 use Rattle.tp_build.proofs.dispatch.builtin.Goals as goal
 
 pub returns-in-Two-clause-does : goal.returns-in-Two-clause-does

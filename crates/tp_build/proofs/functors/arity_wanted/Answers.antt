@@ -1,6 +1,6 @@
 use Rattle.std.proofs.Common.{sym, subst}
 use Rattle.tp_build.specs.Errors.{Finds, itself}
-use Rattle.tp_build.proofs.FunctorLemmas.{wanted-is}
+use Rattle.tp_build.proofs.RowAnswers.Functor.{wanted-is}
 use Rattle.tp_meaning.specs.Heap.{seen}
 use Rattle.tp_build.proofs.functors.arity_wanted.Goals as goal
 

@@ -1,4 +1,4 @@
-use Rattle.tp_build.proofs.FunctorLemmas.{compound-stands, compound-made}
+use Rattle.tp_build.proofs.RowAnswers.Functor.{compound-stands, compound-made}
 use Rattle.tp_build.proofs.functors.compound_of_variables.Goals as goal
 
 pub place-requires-clause-cell : goal.place-requires-clause-cell

@@ -1,5 +1,5 @@
 use Rattle.tp_meaning.specs.Heap.{seen}
-use Rattle.tp_build.proofs.FunctorLemmas.{functor-variable, functor-compound}
+use Rattle.tp_build.proofs.RowAnswers.Functor.{functor-variable, functor-compound}
 use Rattle.tp_build.proofs.functors.functor.Goals as goal
 
 pub returns-in-Var-clause-does : goal.returns-in-Var-clause-does

@@ -4,7 +4,7 @@ use Rattle.tp_terms.specs.Term.{Int}
 use Rattle.tp_meaning.specs.Heap.{seen, cell_shown}
 use Rattle.tp_meaning.specs.Answers.{unifies, then_unifies}
 use Rattle.tp_build.specs.Answers.{Does}
-use Rattle.tp_build.proofs.FunctorLemmas.{known-does}
+use Rattle.tp_build.proofs.RowAnswers.Functor.{known-does}
 use Rattle.tp_build.proofs.functors.functor_of_known.Goals as goal
 
 pub returns-clause-does : goal.returns-clause-does

@@ -1,5 +1,5 @@
 use Rattle.tp_meaning.specs.Heap.{seen}
-use Rattle.tp_build.proofs.FunctorLemmas.{variable-does, variable-fails}
+use Rattle.tp_build.proofs.RowAnswers.Functor.{variable-does, variable-fails}
 use Rattle.tp_build.proofs.functors.functor_of_variable.Goals as goal
 
 pub raise-requires-clause-fault : goal.raise-requires-clause-fault

@@ -2,8 +2,8 @@ use Rattle.std.proofs.Common.{◌<◌, arith, sym, subst}
 use Rattle.tp_meaning.specs.Heap.{seen}
 use Rattle.tp_meaning.specs.Checks.{name_in}
 use Rattle.tp_build.specs.Errors.{IsFault}
-use Rattle.tp_build.proofs.CheckLemmas.{name-found, name-other}
-use Rattle.tp_build.proofs.FunctorLemmas.{made-does, made-fails}
+use Rattle.tp_build.proofs.PlacesShow.Checked.{name-found, name-other}
+use Rattle.tp_build.proofs.RowAnswers.Functor.{made-does, made-fails}
 use Rattle.tp_build.proofs.functors.make_and_unify.Goals as goal
 
 pub returns-in_ok-compound-in-Ok-clause-does : goal.returns-in_ok-compound-in-Ok-clause-does

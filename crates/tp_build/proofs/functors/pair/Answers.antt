@@ -1,6 +1,6 @@
-use Rattle.tp_terms.proofs.StartLemmas.{start-within}
+use Rattle.tp_terms.proofs.Naming.Start.{start-within}
 use Rattle.std.proofs.Common.{arith}
-use Rattle.tp_build.proofs.FunctorLemmas.{pair-shown}
+use Rattle.tp_build.proofs.RowAnswers.Functor.{pair-shown}
 use Rattle.tp_build.proofs.functors.pair.Goals as goal
 
 pub compound_of_two-requires-clause-name : goal.compound_of_two-requires-clause-name

@@ -1,5 +1,5 @@
 use Rattle.std.proofs.Common.{◌+◌, refl, arith}
-use Rattle.tp_build.proofs.FunctorLemmas.{variables-more}
+use Rattle.tp_build.proofs.RowAnswers.Functor.{variables-more}
 use Rattle.tp_build.proofs.functors.variables.Goals as goal
 
 pub loop-made-preserved : goal.loop-made-preserved

@@ -1,7 +1,7 @@
 use Rattle.std.proofs.Common.{Ok, refl, subst, ◌∙◌}
 use Rattle.tp_build.specs.Answers.{Does}
 use Rattle.tp_meaning.specs.Answers.{succeeds}
-use Rattle.tp_build.proofs.Rows.{kind-top}
+use Rattle.tp_build.proofs.RowAnswers.Heaps.{kind-top}
 use Rattle.tp_build.proofs.kinds.test_kind.Goals as goal
 
 pub returns : goal.returns

@@ -1,5 +1,5 @@
 use Rattle.std.proofs.Common.{◌≡◌, true}
-use Rattle.tp_build.proofs.ListLemmas.{link-element, link-compound, link-variable, link-empty, link-atom}
+use Rattle.tp_build.proofs.PlacesShow.Lists.{link-element, link-compound, link-variable, link-empty, link-atom}
 use Rattle.tp_build.proofs.lists.link_in.Goals as goal
 
 pub returns-in-Var : goal.returns-in-Var

@@ -1,6 +1,6 @@
 use Rattle.std.proofs.Common.{arith}
-use Rattle.tp_terms.proofs.StartLemmas.{start-within}
-use Rattle.tp_build.proofs.ListLemmas.{makes-link}
+use Rattle.tp_terms.proofs.Naming.Start.{start-within}
+use Rattle.tp_build.proofs.PlacesShow.Lists.{makes-link}
 use Rattle.tp_build.proofs.lists.link_of.Goals as goal
 
 pub compound_of_two-requires-clause-name : goal.compound_of_two-requires-clause-name

@@ -1,4 +1,4 @@
-use Rattle.tp_build.proofs.ListLemmas.{empty-stands, parts-default}
+use Rattle.tp_build.proofs.PlacesShow.Lists.{empty-stands, parts-default}
 use Rattle.tp_build.proofs.lists.list_of_parts.Goals as goal
 
 pub link_of-requires-in_default : goal.link_of-requires-in_default

@@ -1,6 +1,6 @@
 use Rattle.std.proofs.Common.{◌≡◌, ◌<◌, ◌+◌, ◌-◌, ap, subst, arith}
 use Rattle.tp_meaning.specs.Heap.{IsTop}
-use Rattle.tp_build.proofs.ListLemmas.{places-none, places-more}
+use Rattle.tp_build.proofs.PlacesShow.Lists.{places-none, places-more}
 use Rattle.tp_build.proofs.lists.list_of_places.Goals as goal
 
 pub loop-left-init : goal.loop-left-init

@@ -3,7 +3,7 @@ use Rattle.std.proofs.Common.{◌≡◌, ◌<◌, ◌+◌, length, arith, ◌++�
 use Rattle.std.proofs.lemmas.List.Elements.{All-nil, All-push}
 use Rattle.tp_meaning.specs.Heap.{seen}
 use Rattle.tp_build.specs.Lists.{AreWithin, front, place_seen}
-use Rattle.tp_build.proofs.ListLemmas.{walked-more, walked-all, ends-more}
+use Rattle.tp_build.proofs.PlacesShow.Lists.{walked-more, walked-all, ends-more}
 use Rattle.tp_build.proofs.lists.walk.Goals as goal
 
 pub loop-first-init : goal.loop-first-init

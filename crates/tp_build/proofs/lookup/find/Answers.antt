@@ -1,6 +1,6 @@
 use Rattle.std.proofs.Common.{Some, sym, ap, ◌∙◌}
 use Rattle.tp_terms.specs.Shown.{name_at}
-use Rattle.tp_build.proofs.FamilyLemmas.{count-fits}
+use Rattle.tp_build.proofs.RowAnswers.Counts.{count-fits}
 use Rattle.tp_build.proofs.lookup.find.Goals as goal
 
 pub returns-in-Some-BuiltIn-clause-count : goal.returns-in-Some-BuiltIn-clause-count

@@ -1,4 +1,4 @@
-use Rattle.tp_build.proofs.PartsLemmas.{row-compound}
+use Rattle.tp_build.proofs.RowAnswers.Parts.{row-compound}
 use Rattle.tp_build.proofs.parts.compound_of_places.Goals as goal
 
 pub returns-clause-shows : goal.returns-clause-shows

@@ -1,6 +1,6 @@
 use Rattle.std.proofs.lemmas.Result.{err_from_is_err_and}
-use Rattle.tp_build.proofs.CheckLemmas.{name-other}
-use Rattle.tp_build.proofs.PartsLemmas.{head-found, head-no_name}
+use Rattle.tp_build.proofs.PlacesShow.Checked.{name-other}
+use Rattle.tp_build.proofs.RowAnswers.Parts.{head-found, head-no_name}
 use Rattle.tp_build.proofs.parts.head_given.Goals as goal
 
 pub returns-in_err-name : goal.returns-in_err-name

@@ -1,8 +1,8 @@
 use Rattle.std.proofs.Common.{length, sym, ◌∙◌}
 use Rattle.std.proofs.lemmas.Bool.{eqb-true}
 use Rattle.tp_meaning.specs.Heap.{seen}
-use Rattle.tp_build.proofs.ListLemmas.{empty-stands}
-use Rattle.tp_build.proofs.PartsLemmas.{empty-does, rest-within}
+use Rattle.tp_build.proofs.PlacesShow.Lists.{empty-stands}
+use Rattle.tp_build.proofs.RowAnswers.Parts.{empty-does, rest-within}
 use Rattle.tp_build.proofs.parts.make_and_unify.Goals as goal
 
 pub raise-requires-clause-fault : goal.raise-requires-clause-fault

@@ -1,5 +1,5 @@
 use Rattle.std.proofs.Common.{◌+◌, refl, arith}
-use Rattle.tp_build.proofs.PartsLemmas.{row-more, same-at}
+use Rattle.tp_build.proofs.RowAnswers.Parts.{row-more, same-at}
 use Rattle.tp_build.proofs.parts.place_row.Goals as goal
 
 pub loop-placed-preserved : goal.loop-placed-preserved

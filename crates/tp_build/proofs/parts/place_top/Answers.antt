@@ -1,4 +1,4 @@
-use Rattle.tp_build.proofs.PartsLemmas.{place-shown}
+use Rattle.tp_build.proofs.RowAnswers.Parts.{place-shown}
 use Rattle.tp_build.proofs.parts.place_top.Goals as goal
 
 pub returns-clause-shows : goal.returns-clause-shows

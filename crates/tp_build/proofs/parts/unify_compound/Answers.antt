@@ -1,5 +1,5 @@
 use Rattle.tp_meaning.specs.Heap.{seen}
-use Rattle.tp_build.proofs.PartsLemmas.{compound-does, compound-fails}
+use Rattle.tp_build.proofs.RowAnswers.Parts.{compound-does, compound-fails}
 use Rattle.tp_build.proofs.parts.unify_compound.Goals as goal
 
 pub returns-in_ok-compound-in-Ok-clause-does : goal.returns-in_ok-compound-in-Ok-clause-does

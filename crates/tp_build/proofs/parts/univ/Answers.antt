@@ -1,5 +1,5 @@
 use Rattle.tp_meaning.specs.Heap.{seen}
-use Rattle.tp_build.proofs.PartsLemmas.{univ-variable, parts-does}
+use Rattle.tp_build.proofs.RowAnswers.Parts.{univ-variable, parts-does}
 use Rattle.tp_build.proofs.parts.univ.Goals as goal
 
 pub returns-in-Var-clause-does : goal.returns-in-Var-clause-does

@@ -1,5 +1,5 @@
 use Rattle.tp_meaning.specs.Heap.{seen}
-use Rattle.tp_build.proofs.PartsLemmas.{elements-does, elements-fail}
+use Rattle.tp_build.proofs.RowAnswers.Parts.{elements-does, elements-fail}
 use Rattle.tp_build.proofs.parts.univ_of_variable.Goals as goal
 
 pub returns-in-Ok-clause-does : goal.returns-in-Ok-clause-does

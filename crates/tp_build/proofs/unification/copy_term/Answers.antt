@@ -1,4 +1,4 @@
-use Rattle.tp_build.proofs.Rows.{does-copy}
+use Rattle.tp_build.proofs.RowAnswers.Heaps.{does-copy}
 use Rattle.tp_build.proofs.unification.copy_term.Goals as goal
 
 pub returns-clause-does : goal.returns-clause-does

@@ -1,7 +1,7 @@
 use Rattle.std.proofs.Common.{Ok, subst}
 use Rattle.tp_build.specs.Answers.{Does}
 use Rattle.tp_meaning.specs.Answers.{succeeds}
-use Rattle.tp_build.proofs.Rows.{differs-found}
+use Rattle.tp_build.proofs.RowAnswers.Heaps.{differs-found}
 use Rattle.tp_build.proofs.unification.not_unifiable.Goals as goal
 
 pub returns-clause-does : goal.returns-clause-does

@@ -1,6 +1,6 @@
 use Rattle.std.proofs.Common.{subst}
 use Rattle.tp_meaning.specs.Heap.{FindsUnifier}
-use Rattle.tp_build.proofs.Rows.{does-found, does-none, false-not-true}
+use Rattle.tp_build.proofs.RowAnswers.Heaps.{does-found, does-none, false-not-true}
 use Rattle.tp_build.proofs.unification.unify.Goals as goal
 
 pub returns-then-found-clause-does : goal.returns-then-found-clause-does

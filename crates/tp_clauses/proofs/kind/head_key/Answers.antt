@@ -1,6 +1,6 @@
 use Rattle.std.proofs.Common.{length, sym, ap, ◌∙◌}
 use Rattle.tp_terms.specs.declared.cells.Cell.TheVariants as cell
-use Rattle.tp_terms.proofs.ShownLemmas.{AreNamed-cell}
+use Rattle.tp_terms.proofs.Places.Shown.{AreNamed-cell}
 use Rattle.tp_clauses.specs.Kinds.{head_key}
 use Rattle.tp_clauses.proofs.kind.head_key.Goals as goal
 

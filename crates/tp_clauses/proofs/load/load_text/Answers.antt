@@ -1,6 +1,6 @@
 use Rattle.std.proofs.Common.{sym, subst, refl, arith, ◌<◌, ℕ, Option, Err}
 use Rattle.std.proofs.lemmas.Str.{IsCharBoundary-start}
-use Rattle.tp_terms.proofs.NameLemmas.{Grows-same, Grows-trans}
+use Rattle.tp_terms.proofs.Naming.Tables.{Grows-same, Grows-trans}
 use Rattle.tp_clauses.proofs.Loading.Text.{most, loading_start, loading_more, loading_none, loading_err, ended_ok, ended_err, begun_err, begun_memory, loading_memory, fault_same}
 use Rattle.tp_clauses.specs.declared.parts.Parts.{Parts}
 use Rattle.tp_clauses.specs.declared.fault.LoadFault.TheVariants.{NoMemory}

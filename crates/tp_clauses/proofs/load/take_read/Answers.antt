@@ -1,5 +1,5 @@
 use Rattle.std.proofs.Common.{arith, lit<}
-use Rattle.tp_terms.proofs.StartLemmas.{start-within}
+use Rattle.tp_terms.proofs.Naming.Start.{start-within}
 use Rattle.tp_clauses.proofs.load.take_read.Goals as goal
 
 pub prove-unreachable-requires-2 : goal.prove-unreachable-requires-2

@@ -1,7 +1,7 @@
 use Rattle.std.proofs.Common.{arith}
 use Rattle.tp_engine.proofs.Calls.{on_err}
 use Rattle.tp_engine.proofs.Finds.Turns.{went_back, none_left}
-use Rattle.tp_machine.proofs.SamePrograms.{same_trans}
+use Rattle.tp_machine.proofs.Grows.SamePrograms.{same_trans}
 use Rattle.tp_engine.proofs.turns.go_back.Goals as goal
 
 pub resume-requires-clause-few : goal.resume-requires-clause-few

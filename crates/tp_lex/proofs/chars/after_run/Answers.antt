@@ -1,5 +1,5 @@
 use Rattle.std.proofs.Common.{sym, ◌∙◌}
-use Rattle.tp_lex.proofs.RunLemmas.{after_run-goes, after_run-stops, after_run-none}
+use Rattle.tp_lex.proofs.Characters.Runs.{after_run-goes, after_run-stops, after_run-none}
 use Rattle.tp_lex.proofs.chars.after_run.Goals as goal
 
 pub loop-c-preserved : goal.loop-c-preserved

@@ -1,5 +1,5 @@
 use Rattle.std.proofs.Common.{◌+◌, ◌-◌, ◌*◌, ◌^◌, ◌≤◌, sym, ◌∙◌, arith}
-use Rattle.tp_lex.proofs.DigitLemmas.{after_digits-goes, after_digits-stops, after_digits-none, value_with-goes, value_with-stops, value_with-none, saturates, same_pair}
+use Rattle.tp_lex.proofs.Forms.Numerals.{after_digits-goes, after_digits-stops, after_digits-none, value_with-goes, value_with-stops, value_with-none, saturates, same_pair}
 use Rattle.tp_lex.proofs.digits.number.Goals as goal
 use Rattle.tp_lex.proofs.digits.number.Goals.{in-Some+in_default-to_digit, in_default}
 

@@ -1,5 +1,5 @@
 use Rattle.std.proofs.Common.{sym, ◌∙◌}
-use Rattle.tp_lex.proofs.LayoutLemmas.{after_comment-goes, after_comment-stops, after_comment-none}
+use Rattle.tp_lex.proofs.Forms.Gaps.{after_comment-goes, after_comment-stops, after_comment-none}
 use Rattle.tp_lex.proofs.layout.after_comment.Goals as goal
 
 pub returns-in-Some-comment_end-clause-value : goal.returns-in-Some-comment_end-clause-value

@@ -1,5 +1,5 @@
 use Rattle.std.proofs.Common.{sym, ◌∙◌}
-use Rattle.tp_lex.proofs.LayoutLemmas.{after_line-goes, after_line-stops, after_line-none}
+use Rattle.tp_lex.proofs.Forms.Gaps.{after_line-goes, after_line-stops, after_line-none}
 use Rattle.tp_lex.proofs.layout.after_line.Goals as goal
 
 pub loop-c-preserved : goal.loop-c-preserved

@@ -1,5 +1,5 @@
 use Rattle.std.proofs.Common.{sym, ◌∙◌}
-use Rattle.tp_lex.proofs.LayoutLemmas.{past_layout-goes, past_layout-stops, past_layout-fails, after_gap-shorter}
+use Rattle.tp_lex.proofs.Forms.Gaps.{past_layout-goes, past_layout-stops, past_layout-fails, after_gap-shorter}
 use Rattle.tp_lex.proofs.layout.past_layout.Goals as goal
 
 pub loop-after-smaller : goal.loop-after-smaller

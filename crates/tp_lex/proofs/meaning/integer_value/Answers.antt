@@ -1,5 +1,5 @@
-use Rattle.tp_lex.proofs.TokenLemmas.{given}
-use Rattle.tp_lex.proofs.MeaningLemmas.{value-some, value-none}
+use Rattle.tp_lex.proofs.TokensStand.Each.{given}
+use Rattle.tp_lex.proofs.Forms.Meant.{value-some, value-none}
 use Rattle.tp_lex.proofs.meaning.integer_value.Goals as goal
 
 pub range_from-requires : goal.range_from-requires

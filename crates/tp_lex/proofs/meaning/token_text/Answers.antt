@@ -1,6 +1,6 @@
 use Rattle.std.proofs.Common.{◌≡◌, chars, string_bytes, IfOk, List, ℕ, subst, ◌∙◌, arith}
-use Rattle.tp_lex.proofs.TokenLemmas.{given}
-use Rattle.tp_lex.proofs.MeaningLemmas.{quotes-of, quoted-name, plain-name}
+use Rattle.tp_lex.proofs.TokensStand.Each.{given}
+use Rattle.tp_lex.proofs.Forms.Meant.{quotes-of, quoted-name, plain-name}
 use Rattle.tp_lex.proofs.meaning.token_text.Goals as goal
 
 pub range_from-requires : goal.range_from-requires

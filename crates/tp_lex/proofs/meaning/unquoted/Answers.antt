@@ -1,5 +1,5 @@
 use Rattle.std.proofs.Common.{◌∙◌, ap, chars, string_bytes}
-use Rattle.tp_lex.proofs.MeaningLemmas.{quoted_name-of, quoted_name-none}
+use Rattle.tp_lex.proofs.Forms.Meant.{quoted_name-of, quoted_name-none}
 use Rattle.tp_lex.proofs.meaning.unquoted.Goals as goal
 use Rattle.tp_lex.proofs.meaning.unquoted.Goals.{in-Some+in_ok-push_inside, in_default}
 

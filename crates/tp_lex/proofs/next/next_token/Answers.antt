@@ -1,8 +1,8 @@
 use Rattle.std.proofs.Common.{sym}
 use Rattle.tp_lex.proofs.StandsBehind.NextToken.{start-ends, comment-ends, rest-ends, ends-short, next-fails, next-none, next-token, next-broken}
-use Rattle.tp_lex.proofs.SuffixLemmas.{ends-trans}
-use Rattle.tp_lex.proofs.TokenLemmas.{given}
-use Rattle.tp_lex.proofs.TokensLemmas.{tokens-next}
+use Rattle.tp_lex.proofs.Places.Suffixes.{ends-trans}
+use Rattle.tp_lex.proofs.TokensStand.Each.{given}
+use Rattle.tp_lex.proofs.TokensStand.Listed.{tokens-next}
 use Rattle.tp_lex.proofs.next.next_token.Goals as goal
 
 pub overflow_sub-result : goal.overflow_sub-result

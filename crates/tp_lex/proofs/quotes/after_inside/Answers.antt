@@ -1,6 +1,6 @@
 use Rattle.std.proofs.Common.{sym, ap, ◌∙◌}
 use Rattle.tp_lex.specs.Quotes.{after_closing}
-use Rattle.tp_lex.proofs.QuoteLemmas.{inside-closed, inside-goes, inside-at, item-shorter}
+use Rattle.tp_lex.proofs.Forms.Quoted.{inside-closed, inside-goes, inside-at, item-shorter}
 use Rattle.tp_lex.proofs.quotes.after_inside.Goals as goal
 
 pub returns-in-Err-clause-value : goal.returns-in-Err-clause-value

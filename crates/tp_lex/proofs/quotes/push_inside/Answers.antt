@@ -1,5 +1,5 @@
 use Rattle.std.proofs.Common.{chars, string_bytes}
-use Rattle.tp_lex.proofs.QuoteLemmas.{item-shorter, filled-goes, filled-ends, filled-fails}
+use Rattle.tp_lex.proofs.Forms.Quoted.{item-shorter, filled-goes, filled-ends, filled-fails}
 use Rattle.tp_lex.proofs.quotes.push_inside.Goals as goal
 
 pub items-smaller : goal.items-smaller

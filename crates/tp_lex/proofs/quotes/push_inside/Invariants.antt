@@ -1,7 +1,7 @@
 use Rattle.std.proofs.Common.{chars, length, string_bytes}
 use denote.Text.{Utf8}
 use denote.Shadow.{shadow}
-use Rattle.tp_lex.proofs.QuoteLemmas.{Filled}
+use Rattle.tp_lex.proofs.Forms.Quoted.{Filled}
 use Rattle.tp_lex.proofs.quotes.push_inside.Given as goal
 
 abbrev pub invariant-items : goal.invariant-items

@@ -1,5 +1,5 @@
 use Rattle.tp_state.specs.State.{plain_of}
-use Rattle.tp_machine.proofs.Begun.{starts, placed_at, placed_none}
+use Rattle.tp_machine.proofs.Enters.Begun.{starts, placed_at, placed_none}
 use Rattle.tp_machine.proofs.begin.first_state.Goals as goal
 
 pub returns-in_default-clause-start : goal.returns-in_default-clause-start

@@ -1,7 +1,7 @@
 use Rattle.std.proofs.Common.{length, arith}
 use Rattle.tp_terms.specs.declared.symbols.TheConstants.{CALL}
-use Rattle.tp_terms.proofs.StartLemmas.{start-within}
-use Rattle.tp_machine.proofs.Begun.{placed, empty_named}
+use Rattle.tp_terms.proofs.Naming.Start.{start-within}
+use Rattle.tp_machine.proofs.Enters.Begun.{placed, empty_named}
 use Rattle.tp_machine.proofs.begin.place_goal.Goals as goal
 
 pub returns : goal.returns

@@ -1,6 +1,6 @@
 use Rattle.std.proofs.Common.{sym, ◌∙◌}
-use Rattle.tp_store.proofs.StoreLemmas.{value-unbound}
-use Rattle.tp_machine.proofs.Entered.{refuses_unbound}
+use Rattle.tp_store.proofs.Standing.Facts.{value-unbound}
+use Rattle.tp_machine.proofs.Enters.Entered.{refuses_unbound}
 use Rattle.tp_machine.proofs.enter.enter.Goals as goal
 
 pub returns-in-Var-clause-entered : goal.returns-in-Var-clause-entered

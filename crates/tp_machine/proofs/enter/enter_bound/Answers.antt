@@ -3,7 +3,7 @@ use Rattle.std.specs.Prelude.{IfSome}
 use Rattle.std.specs.Option.{option_map}
 use Rattle.tp_terms.specs.declared.cells.Ref.{Ref}
 use Rattle.tp_store.specs.Contents.{seen}
-use Rattle.tp_machine.proofs.Entered.{enters_body, body_names, cells-follow}
+use Rattle.tp_machine.proofs.Enters.Entered.{enters_body, body_names, cells-follow}
 use Rattle.tp_machine.proofs.enter.enter_bound.Goals as goal
 
 pub returns-in-Some-clause-entered : goal.returns-in-Some-clause-entered

@@ -1,6 +1,6 @@
 use Rattle.std.proofs.Common.{subst, arith}
 use Rattle.tp_machine.specs.Built.{Built}
-use Rattle.tp_machine.proofs.Raised.{is_too_many, name_within}
+use Rattle.tp_machine.proofs.Gives.Raised.{is_too_many, name_within}
 use Rattle.tp_machine.proofs.errors.arity_kind.Goals as goal
 
 pub returns-clause-built : goal.returns-clause-built

@@ -1,7 +1,7 @@
 use Rattle.std.proofs.Common.{◌≡◌, [], ◌∷◌, length, sym, subst, ◌∙◌, arith}
 use Rattle.tp_terms.specs.declared.cells.Cell.TheVariants as cell
 use Rattle.tp_store.specs.Contents.{Contents, IsNumbered}
-use Rattle.tp_machine.proofs.Raised.{with_cells, more_cells, length_cells, step_keeps, with_known, before-longer, culprit_built}
+use Rattle.tp_machine.proofs.Gives.Raised.{with_cells, more_cells, length_cells, step_keeps, with_known, before-longer, culprit_built}
 use Rattle.tp_machine.proofs.errors.culprit_kind.Goals as goal
 
 pub place-requires-2-clause-before : goal.place-requires-2-clause-before

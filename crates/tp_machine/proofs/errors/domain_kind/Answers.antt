@@ -4,7 +4,7 @@ use Rattle.tp_terms.specs.Term.{Int}
 use Rattle.tp_terms.specs.Shown.{IsNamed, name_at, shown_from}
 use Rattle.tp_machine.specs.Built.{Built}
 use Rattle.tp_machine.specs.Causes.{kind_with, wrong_domain}
-use Rattle.tp_machine.proofs.Raised.{is_wrong_domain, name_within}
+use Rattle.tp_machine.proofs.Gives.Raised.{is_wrong_domain, name_within}
 use Rattle.tp_machine.proofs.errors.domain_kind.Goals as goal
 
 pub returns-clause-built : goal.returns-clause-built

@@ -1,6 +1,6 @@
 use Rattle.std.proofs.Common.{sym, ap, ◌∙◌, arith}
 use Rattle.tp_machine.specs.Causes.{domain_word}
-use Rattle.tp_machine.proofs.Raised.{is_end_time, is_not_less, is_start_time, name_within}
+use Rattle.tp_machine.proofs.Gives.Raised.{is_end_time, is_not_less, is_start_time, name_within}
 use Rattle.tp_machine.proofs.errors.domain_name.Goals as goal
 
 pub returns-in-Duration-clause-within : goal.returns-in-Duration-clause-within

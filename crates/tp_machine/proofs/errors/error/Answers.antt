@@ -1,8 +1,8 @@
 use Rattle.std.proofs.Common.{◌≡◌, ◌<◌, length, [], ◌∷◌, ◌∙◌, arith}
 use Rattle.tp_terms.specs.declared.cells.Cell.TheVariants as cell
 use Rattle.tp_terms.specs.declared.symbols.TheConstants.{ERROR}
-use Rattle.tp_terms.proofs.ShownLemmas.{shows-append}
-use Rattle.tp_machine.proofs.Raised.{with_cells, more_cells, length_cells, step_keeps, with_known, error_built}
+use Rattle.tp_terms.proofs.Places.Shown.{shows-append}
+use Rattle.tp_machine.proofs.Gives.Raised.{with_cells, more_cells, length_cells, step_keeps, with_known, error_built}
 use Rattle.tp_machine.proofs.errors.error.Goals as goal
 
 pub returns : goal.returns

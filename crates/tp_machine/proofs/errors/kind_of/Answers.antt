@@ -6,7 +6,7 @@ use Rattle.tp_terms.specs.Term.{Name}
 use Rattle.tp_machine.specs.Built.{Built}
 use Rattle.tp_machine.specs.Causes.{CauseStands, kind_term}
 use Rattle.tp_machine.specs.declared.errors.Cause.{Cause}
-use Rattle.tp_machine.proofs.Raised.{if_ok, name_within, no_process, not_atom, not_callable, not_integer, not_list}
+use Rattle.tp_machine.proofs.Gives.Raised.{if_ok, name_within, no_process, not_atom, not_callable, not_integer, not_list}
 use Rattle.tp_machine.proofs.errors.kind_of.Goals as goal
 
 pub returns-in-NotCallable-clause-built : goal.returns-in-NotCallable-clause-built

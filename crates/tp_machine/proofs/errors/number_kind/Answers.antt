@@ -5,7 +5,7 @@ use Rattle.tp_terms.specs.Shown.{IsNamed, name_at, shown_from}
 use Rattle.tp_terms.specs.declared.symbols.TheConstants.{CALLABLE}
 use Rattle.tp_machine.specs.Built.{Built}
 use Rattle.tp_machine.specs.Causes.{kind_with}
-use Rattle.tp_machine.proofs.Raised.{name_within, not_callable}
+use Rattle.tp_machine.proofs.Gives.Raised.{name_within, not_callable}
 use Rattle.tp_machine.proofs.errors.number_kind.Goals as goal
 
 pub returns-clause-built : goal.returns-clause-built

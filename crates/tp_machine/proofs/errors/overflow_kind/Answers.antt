@@ -1,6 +1,6 @@
 use Rattle.std.proofs.Common.{subst, arith}
 use Rattle.tp_machine.specs.Built.{Built}
-use Rattle.tp_machine.proofs.Raised.{is_overflow, name_within}
+use Rattle.tp_machine.proofs.Gives.Raised.{is_overflow, name_within}
 use Rattle.tp_machine.proofs.errors.overflow_kind.Goals as goal
 
 pub returns-clause-built : goal.returns-clause-built

@@ -1,7 +1,7 @@
 use Rattle.std.proofs.Common.{◌≡◌, length, subst, Some, slice_get, arith}
 use Rattle.tp_terms.specs.Shown.{shows, shown_from}
-use Rattle.tp_machine.proofs.Again.{again_built}
-use Rattle.tp_machine.proofs.Raised.{before-longer, numbered_cell}
+use Rattle.tp_machine.proofs.Grows.Again.{again_built}
+use Rattle.tp_machine.proofs.Gives.Raised.{before-longer, numbered_cell}
 use Rattle.tp_machine.proofs.errors.placed_again.Goals as goal
 
 pub place-requires-clause-before : goal.place-requires-clause-before

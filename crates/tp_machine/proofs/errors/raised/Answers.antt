@@ -1,4 +1,4 @@
-use Rattle.tp_machine.proofs.Raised.{built_trans}
+use Rattle.tp_machine.proofs.Gives.Raised.{built_trans}
 use Rattle.tp_machine.specs.Causes.{kind_term}
 use Rattle.tp_machine.proofs.errors.raised.Goals as goal
 

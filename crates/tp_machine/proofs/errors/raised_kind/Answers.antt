@@ -1,5 +1,5 @@
 use Rattle.tp_terms.specs.Shown.{shows}
-use Rattle.tp_machine.proofs.Raised.{built_trans}
+use Rattle.tp_machine.proofs.Gives.Raised.{built_trans}
 use Rattle.tp_machine.proofs.errors.raised_kind.Goals as goal
 
 pub returns : goal.returns

@@ -2,11 +2,11 @@ use Rattle.std.proofs.Common.{◌≡◌, [], ◌∷◌, length, sym, subst, ◌�
 use Rattle.tp_terms.specs.declared.cells.Cell.TheVariants as cell
 use Rattle.tp_terms.specs.declared.symbols.TheConstants.{CREATE, PERMISSION_ERROR, PROCESS}
 use Rattle.tp_terms.specs.Shown.{shows, shown_from}
-use Rattle.tp_terms.proofs.ShownLemmas.{AreNamed-cell}
+use Rattle.tp_terms.proofs.Places.Shown.{AreNamed-cell}
 use Rattle.tp_meaning.specs.Checks.{permission_error}
 use Rattle.tp_store.specs.Contents.{Contents, IsNumbered}
 use Rattle.tp_machine.specs.Built.{Built}
-use Rattle.tp_machine.proofs.Raised.{with_cells, more_cells, length_cells, step_keeps, with_known, before-longer, numbered_cell, taken_built}
+use Rattle.tp_machine.proofs.Gives.Raised.{with_cells, more_cells, length_cells, step_keeps, with_known, before-longer, numbered_cell, taken_built}
 use Rattle.tp_machine.proofs.errors.taken_kind.Goals as goal
 
 pub place-requires-3-clause-before : goal.place-requires-3-clause-before

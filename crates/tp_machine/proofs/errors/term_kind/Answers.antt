@@ -1,9 +1,9 @@
 use Rattle.std.proofs.Common.{◌≡◌, length, sym, subst, Some, slice_get, arith}
 use Rattle.tp_terms.specs.Shown.{name_at, shows, shown_from}
-use Rattle.tp_terms.proofs.ShownLemmas.{AreNamed-cell}
+use Rattle.tp_terms.proofs.Places.Shown.{AreNamed-cell}
 use Rattle.tp_machine.specs.Built.{Built}
 use Rattle.tp_machine.specs.Causes.{kind_with}
-use Rattle.tp_machine.proofs.Raised.{before-longer, numbered_cell}
+use Rattle.tp_machine.proofs.Gives.Raised.{before-longer, numbered_cell}
 use Rattle.tp_machine.proofs.errors.term_kind.Goals as goal
 
 pub culprit_kind-requires-clause-before : goal.culprit_kind-requires-clause-before

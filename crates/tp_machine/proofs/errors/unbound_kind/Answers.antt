@@ -1,4 +1,4 @@
-use Rattle.tp_machine.proofs.Raised.{unbound_built}
+use Rattle.tp_machine.proofs.Gives.Raised.{unbound_built}
 use Rattle.tp_machine.proofs.errors.unbound_kind.Goals as goal
 
 pub returns-clause-built : goal.returns-clause-built

@@ -1,7 +1,7 @@
 use Rattle.std.proofs.Common.{◌≡◌, [], ◌∷◌, ◌∙◌, pos}
 use Rattle.tp_terms.specs.declared.cells.Cell.TheVariants as cell
 use Rattle.tp_terms.specs.declared.symbols.TheConstants.{SLASH, EXISTENCE_ERROR, PROCEDURE}
-use Rattle.tp_machine.proofs.Raised.{with_cells, more_cells, length_cells, step_keeps, with_known, unknown_built}
+use Rattle.tp_machine.proofs.Gives.Raised.{with_cells, more_cells, length_cells, step_keeps, with_known, unknown_built}
 use Rattle.tp_machine.proofs.errors.unknown_kind.Goals as goal
 
 pub returns-clause-built : goal.returns-clause-built

@@ -1,6 +1,6 @@
 use Rattle.std.proofs.Common.{◌≡◌, [], ◌∷◌, ◌∙◌}
 use Rattle.tp_terms.specs.declared.cells.Cell.TheVariants as cell
-use Rattle.tp_machine.proofs.Raised.{with_cells, more_cells, length_cells, step_keeps, with_known, word_built}
+use Rattle.tp_machine.proofs.Gives.Raised.{with_cells, more_cells, length_cells, step_keeps, with_known, word_built}
 use Rattle.tp_machine.proofs.errors.word_kind.Goals as goal
 
 pub returns-clause-built : goal.returns-clause-built

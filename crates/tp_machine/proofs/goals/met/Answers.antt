@@ -1,6 +1,6 @@
 use Rattle.std.proofs.Common.{length, sym, ◌∙◌}
-use Rattle.tp_store.proofs.StoreLemmas.{value-unbound}
-use Rattle.tp_machine.proofs.GoalsMet.{atom_is, compound_is}
+use Rattle.tp_store.proofs.Standing.Facts.{value-unbound}
+use Rattle.tp_machine.proofs.Enters.GoalsMet.{atom_is, compound_is}
 use Rattle.tp_machine.proofs.goals.met.Goals as goal
 
 pub returns-in-Var : goal.returns-in-Var

@@ -1,7 +1,7 @@
 use Rattle.std.proofs.Common.{length}
 use Rattle.tp_state.specs.State.{held_of}
 use Rattle.tp_state.proofs.GoingBack.Bindings.{store-follows}
-use Rattle.tp_machine.proofs.HeadsMet.{head_names, claimed_names, entered_none, entered_some, grows_none, grows_some}
+use Rattle.tp_machine.proofs.Meets.HeadsMet.{head_names, claimed_names, entered_none, entered_some, grows_none, grows_some}
 use Rattle.tp_machine.proofs.heads.enter_clause.Goals as goal
 
 pub returns-in_default-clause-enters : goal.returns-in_default-clause-enters

@@ -1,7 +1,7 @@
 use Rattle.std.proofs.Common.{ap, sym, subst, ◌∙◌, is_some}
 use Rattle.tp_store.specs.Contents.{Contents, CanGoBack}
 use Rattle.tp_machine.specs.Program.{head_term}
-use Rattle.tp_machine.proofs.HeadsMet.{mid_can, mid_unifier, mid_names}
+use Rattle.tp_machine.proofs.Meets.HeadsMet.{mid_can, mid_unifier, mid_names}
 use Rattle.tp_machine.proofs.heads.meets.Goals as goal
 
 pub back_to-requires : goal.back_to-requires

@@ -1,8 +1,8 @@
 use Rattle.tp_terms.specs.declared.cells.Cell.TheVariants as cell
 use Rattle.tp_state.specs.State.{held_of}
 use Rattle.tp_state.proofs.GoingBack.Bindings.{store-follows}
-use Rattle.tp_machine.proofs.Raised.{with_known}
-use Rattle.tp_machine.proofs.Next.{number_equals, number_grows}
+use Rattle.tp_machine.proofs.Gives.Raised.{with_known}
+use Rattle.tp_machine.proofs.Gives.Next.{number_equals, number_grows}
 use Rattle.tp_machine.proofs.numbers.equal_first.Goals as goal
 
 pub returns-clause-equals : goal.returns-clause-equals

@@ -2,9 +2,9 @@ use Rattle.std.proofs.Common.{◌≡◌, pos, [], ◌∷◌, length, Some, slice
 use Rattle.std.specs.Prelude.{◌+ℤ◌}
 use Rattle.tp_terms.specs.declared.cells.Cell.TheVariants as cell
 use Rattle.tp_terms.specs.Shown.{shows, shown_from}
-use Rattle.tp_terms.proofs.ShownLemmas.{AreNamed-cell}
-use Rattle.tp_machine.proofs.Raised.{before-longer, with_cells, more_cells, length_cells, step_keeps, with_known}
-use Rattle.tp_machine.proofs.Next.{next_built}
+use Rattle.tp_terms.proofs.Places.Shown.{AreNamed-cell}
+use Rattle.tp_machine.proofs.Gives.Raised.{before-longer, with_cells, more_cells, length_cells, step_keeps, with_known}
+use Rattle.tp_machine.proofs.Gives.Next.{next_built}
 use Rattle.tp_machine.proofs.numbers.next_goal.Goals as goal
 
 pub returns : goal.returns

@@ -1,5 +1,5 @@
 use Rattle.std.proofs.Common.{◌≡◌, ◌+◌, length, refl, ap, arith}
-use Rattle.tp_machine.proofs.Parted.{within_call, other_name, other_count, two_parts}
+use Rattle.tp_machine.proofs.Enters.Parted.{within_call, other_name, other_count, two_parts}
 use Rattle.tp_machine.proofs.parts.parts_by.Goals as goal
 
 pub overflow_add-second : goal.overflow_add-second

@@ -1,4 +1,4 @@
-use Rattle.tp_meaning.proofs.HeapLemmas.{makes-one}
+use Rattle.tp_meaning.proofs.HeapsGrow.Cells.{makes-one}
 use Rattle.tp_meaning.proofs.compounds.compound_of_one.Goals as goal
 
 pub returns-clause-made : goal.returns-clause-made

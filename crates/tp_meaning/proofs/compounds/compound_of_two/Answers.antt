@@ -1,4 +1,4 @@
-use Rattle.tp_meaning.proofs.HeapLemmas.{makes-two}
+use Rattle.tp_meaning.proofs.HeapsGrow.Cells.{makes-two}
 use Rattle.tp_meaning.proofs.compounds.compound_of_two.Goals as goal
 
 pub returns-clause-made : goal.returns-clause-made

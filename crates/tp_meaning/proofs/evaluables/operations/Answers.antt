@@ -1,7 +1,7 @@
 use Rattle.std.proofs.Common.{◌-◌, sym, ap, ◌∙◌, arith}
 use Rattle.std.proofs.lemmas.Option.{slice_get_past}
 use Rattle.tp_meaning.specs.declared.evaluables.TheConstants.{OPERATIONS}
-use Rattle.tp_meaning.proofs.OperationPlaces.{operations_of-place, operations_of-before, or_none}
+use Rattle.tp_meaning.proofs.OwnGoals.Operations.{operations_of-place, operations_of-before, or_none}
 use Rattle.tp_meaning.proofs.evaluables.operations.Goals as goal
 
 pub returns-then-name : goal.returns-then-name

@@ -1,4 +1,4 @@
-use Rattle.tp_meaning.proofs.OneUnifier.{one_unifier}
+use Rattle.tp_meaning.proofs.Unification.OneUnifier.{one_unifier}
 use Rattle.tp_meaning.proofs.laws.one_unifier.Goals as goal
 
 pub returns : goal.returns

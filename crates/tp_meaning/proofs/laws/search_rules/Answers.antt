@@ -1,4 +1,4 @@
-use Rattle.tp_meaning.proofs.SearchRules.{search_rules}
+use Rattle.tp_meaning.proofs.Searching.Rules.{search_rules}
 use Rattle.tp_meaning.proofs.laws.search_rules.Goals as goal
 
 pub returns : goal.returns

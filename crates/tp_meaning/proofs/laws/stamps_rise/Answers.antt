@@ -1,4 +1,4 @@
-use Rattle.tp_meaning.proofs.Rise.{stamps_rise}
+use Rattle.tp_meaning.proofs.ValidWorlds.Rise.{stamps_rise}
 use Rattle.tp_meaning.proofs.laws.stamps_rise.Goals as goal
 
 pub returns : goal.returns

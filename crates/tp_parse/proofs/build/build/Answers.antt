@@ -1,6 +1,6 @@
 use Rattle.std.proofs.Common.{◌≡◌, ap, sym, ◌∙◌, arith, subst, take}
 use Rattle.std.proofs.lemmas.List.{take_all}
-use Rattle.tp_terms.proofs.NameLemmas.{Grows-same, Grows-trans}
+use Rattle.tp_terms.proofs.Naming.Tables.{Grows-same, Grows-trans}
 use Rattle.tp_parse.specs.Numbers.{Numbers}
 use Rattle.tp_parse.specs.Steps.{trees_of}
 use Rattle.tp_parse.specs.Making.{IsMade}

@@ -1,6 +1,6 @@
-use Rattle.tp_terms.proofs.NameLemmas.{Grows-same}
-use Rattle.tp_terms.proofs.StartLemmas.{start-place, start-present}
-use Rattle.tp_terms.proofs.SymbolLemmas.{start-empty_list, start-braces, start-conjunction}
+use Rattle.tp_terms.proofs.Naming.Tables.{Grows-same}
+use Rattle.tp_terms.proofs.Naming.Start.{start-place, start-present}
+use Rattle.tp_terms.proofs.Naming.Constants.{start-empty_list, start-braces, start-conjunction}
 use Rattle.tp_parse.proofs.build.intern.Goals as goal
 
 pub returns-in-EmptyList-clause-place : goal.returns-in-EmptyList-clause-place

@@ -2,9 +2,9 @@ use Rattle.std.proofs.Common.{ℕ, ap, sym, ◌∙◌, refl, SFits, w64, rules}
 use Rattle.std.proofs.lemmas.Int.{to_z-of_z}
 use Rattle.std.proofs.lemmas.Option.{slice_get_within}
 use Rattle.tp_terms.specs.Term.{Var, Int, Atom}
-use Rattle.tp_terms.proofs.NameLemmas.{name_at-slice_get}
-use Rattle.tp_terms.proofs.StartLemmas.{start-place}
-use Rattle.tp_terms.proofs.SymbolLemmas.{start-list_cell}
+use Rattle.tp_terms.proofs.Naming.Tables.{name_at-slice_get}
+use Rattle.tp_terms.proofs.Naming.Start.{start-place}
+use Rattle.tp_terms.proofs.Naming.Constants.{start-list_cell}
 use Rattle.tp_parse.specs.Numbers.{Numbers, number_of}
 use Rattle.tp_parse.specs.Steps.{label_name}
 use Rattle.tp_parse.proofs.Numbered.NewNames.{AddsOnly-same, names-atom, names-compound}

@@ -1,7 +1,7 @@
 use Rattle.std.proofs.Common.{sym, refl, ◌∙◌, codes}
 use Rattle.std.specs.Str.{chars, is_utf8}
 use Rattle.std.proofs.lemmas.Str.{IsUtf8-from_is_utf8}
-use Rattle.tp_terms.proofs.TextLemmas.{names_eq-chars}
+use Rattle.tp_terms.proofs.Texts.Equal.{names_eq-chars}
 use Rattle.tp_parse.proofs.ReadsTerms.Exits.{minus-text}
 use Rattle.tp_parse.proofs.leaves.is_minus.Goals as goal
 

@@ -1,6 +1,6 @@
 use Rattle.std.proofs.Common.{arith}
-use Rattle.tp_lex.proofs.TokenLemmas.{given}
-use Rattle.tp_lex.proofs.MeaningLemmas.{plain-name}
+use Rattle.tp_lex.proofs.TokensStand.Each.{given}
+use Rattle.tp_lex.proofs.Forms.Meant.{plain-name}
 use Rattle.tp_parse.proofs.words.plain_name.Goals as goal
 
 pub range-requires : goal.range-requires

@@ -1,7 +1,7 @@
 use Rattle.std.proofs.Common.{w64}
 use Rattle.std.proofs.lemmas.Int.{to_z-of_z}
 use Rattle.std.specs.Str.{chars}
-use Rattle.tp_terms.proofs.AddedLemmas.{Adds-as}
+use Rattle.tp_terms.proofs.Texts.Added.{Adds-as}
 use Rattle.tp_report.proofs.AnswerLines.Pieces.{clock-pieces}
 use Rattle.tp_report.proofs.answer.add_clock.Goals as goal
 

@@ -1,6 +1,6 @@
 use Rattle.std.proofs.Common.{◌≡◌, ◌++◌, ap, ◌∙◌, refl, w64, to_z, of_z}
 use Rattle.std.proofs.lemmas.Int.{to_z-of_z}
-use Rattle.tp_terms.proofs.AddedLemmas.{Adds-as, Adds-then}
+use Rattle.tp_terms.proofs.Texts.Added.{Adds-as, Adds-then}
 use Rattle.tp_report.specs.Report.{number_line, clock_line}
 use Rattle.tp_report.specs.Seen.{seen_in}
 use Rattle.tp_report.specs.Lines.{variables_text, events_text}

@@ -1,5 +1,5 @@
 use Rattle.std.specs.Str.{chars}
-use Rattle.tp_terms.proofs.AddedLemmas.{Adds-as}
+use Rattle.tp_terms.proofs.Texts.Added.{Adds-as}
 use Rattle.tp_report.proofs.LastLine.Pieces.{ended-pieces}
 use Rattle.tp_report.proofs.end.add_end.Goals as goal
 

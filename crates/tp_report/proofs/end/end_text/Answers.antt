@@ -1,6 +1,6 @@
 use Rattle.std.proofs.Common.{sym, ap}
 use Rattle.std.specs.Str.{chars}
-use Rattle.tp_terms.proofs.AddedLemmas.{Adds-as}
+use Rattle.tp_terms.proofs.Texts.Added.{Adds-as}
 use Rattle.tp_report.specs.declared.end.EndLine.{EndLine}
 use Rattle.tp_report.specs.End.{last_line}
 use Rattle.tp_report.proofs.end.end_text.Goals as goal

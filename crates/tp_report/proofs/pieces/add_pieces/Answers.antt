@@ -1,5 +1,5 @@
 use Rattle.std.proofs.Common.{chars, string_bytes, refl}
-use Rattle.tp_terms.proofs.AddedLemmas.{begins, goes, ends}
+use Rattle.tp_terms.proofs.Texts.Added.{begins, goes, ends}
 use Rattle.tp_report.specs.Pieces.{piece_text, pieces_text}
 use Rattle.tp_report.proofs.Parts.Calls.{part_stops}
 use Rattle.tp_report.proofs.Parts.Joined.{left-at, left-none}

@@ -1,6 +1,6 @@
 use Rattle.std.proofs.Common.{pos, [], ◌∷◌}
 use Rattle.tp_terms.specs.declared.cells.Cell.TheVariants as cell
-use Rattle.tp_report_tests.proofs.ReportLemmas.{Fits-one}
+use Rattle.tp_report_tests.proofs.Owed.{Fits-one}
 use Rattle.tp_report_tests.proofs.report.answer.Goals as goal
 
 pub answer_text-requires-clause-fits : goal.answer_text-requires-clause-fits

@@ -1,5 +1,5 @@
 use Rattle.std.proofs.Common.{◌∙◌}
-use Rattle.tp_terms.proofs.ShownLemmas.{AreNamed-cell}
+use Rattle.tp_terms.proofs.Places.Shown.{AreNamed-cell}
 use Rattle.tp_store.specs.Chain.{contents_of}
 use Rattle.tp_store.proofs.Comparison.Ranked.{ranks_places, ranks_smaller, ranks_same, ranks_decide}
 use Rattle.tp_store.proofs.order.compare.Goals as goal

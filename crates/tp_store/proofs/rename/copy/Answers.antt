@@ -3,7 +3,7 @@ use Rattle.tp_terms.specs.Shown.{AreNamed}
 use Rattle.tp_store.specs.Contents.{Contents}
 use Rattle.tp_store.specs.Chain.{contents_of}
 use Rattle.tp_store.proofs.Copies.Fresh.{claimed_below, added_terms, copied_root, adds_nothing}
-use Rattle.tp_store.proofs.StoreLemmas.{can_go_back, went_back}
+use Rattle.tp_store.proofs.Standing.Facts.{can_go_back, went_back}
 use Rattle.tp_store.proofs.rename.copy.Goals as goal
 
 pub copy_renamed-requires-clause-known : goal.copy_renamed-requires-clause-known

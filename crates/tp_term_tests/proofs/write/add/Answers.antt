@@ -1,6 +1,6 @@
 use Rattle.std.proofs.Common.{length, sym, subst}
 use Rattle.tp_terms.specs.Shown.{AreNamed}
-use Rattle.tp_terms.proofs.ShownLemmas.{AreNamed-push}
+use Rattle.tp_terms.proofs.Places.Shown.{AreNamed-push}
 use Rattle.tp_term_tests.proofs.write.add.Goals as goal
 
 pub returns-clause-named : goal.returns-clause-named

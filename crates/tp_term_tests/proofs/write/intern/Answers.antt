@@ -1,6 +1,6 @@
 use Rattle.std.proofs.Common.{length}
-use Rattle.tp_terms.proofs.NameLemmas.{Grows-length}
-use Rattle.tp_terms.proofs.ShownLemmas.{AreNamed-longer}
+use Rattle.tp_terms.proofs.Naming.Tables.{Grows-length}
+use Rattle.tp_terms.proofs.Places.Shown.{AreNamed-longer}
 use Rattle.tp_term_tests.proofs.write.intern.Goals as goal
 
 pub returns : goal.returns

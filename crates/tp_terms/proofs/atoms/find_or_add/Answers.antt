@@ -1,6 +1,6 @@
 use Rattle.std.proofs.Common.{sym, ap, ◌∙◌, chars}
 use Rattle.tp_terms.specs.Names.{names_of, with_name}
-use Rattle.tp_terms.proofs.NameLemmas.{found-place, found-names, stored-place, inserted-names, not_found}
+use Rattle.tp_terms.proofs.Naming.Tables.{found-place, found-names, stored-place, inserted-names, not_found}
 use Rattle.tp_terms.proofs.atoms.find_or_add.Goals as goal
 
 pub returns-in-Some-clause-place : goal.returns-in-Some-clause-place

@@ -1,5 +1,5 @@
 use Rattle.std.proofs.lemmas.Str.{IsUtf8-string_bytes}
-use Rattle.tp_terms.proofs.AddedLemmas.{chars-pushed}
+use Rattle.tp_terms.proofs.Texts.Added.{chars-pushed}
 use Rattle.tp_terms.proofs.text.push_char.Goals as goal
 
 pub returns-clause-added : goal.returns-clause-added

@@ -1,6 +1,6 @@
 use Rattle.std.proofs.Common.{ap, chars}
 use Rattle.std.proofs.lemmas.Str.{IsUtf8-string_bytes}
-use Rattle.tp_terms.proofs.AddedLemmas.{chars-joined, Adds-none}
+use Rattle.tp_terms.proofs.Texts.Added.{chars-joined, Adds-none}
 use Rattle.tp_terms.proofs.text.push_text.Goals as goal
 
 pub returns-in_err-push_str-clause-added : goal.returns-in_err-push_str-clause-added

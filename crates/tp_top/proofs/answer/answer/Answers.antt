@@ -4,9 +4,9 @@ use Rattle.tp_top.specs.Expected.{for_text}
 use Rattle.tp_top.specs.Metered.{MayCount}
 use Rattle.tp_top.specs.Told.{request_in}
 use Rattle.tp_top.specs.Written.{Writes}
-use Rattle.tp_top.proofs.CountedLemmas.{fault_counted, stay_counted}
-use Rattle.tp_top.proofs.RunAnswers.{if_ok, base_answered, base_refused, told_refusal, same_model_line, text_some}
-use Rattle.tp_top.proofs.WrittenLemmas.{less_of_none}
+use Rattle.tp_top.proofs.Metering.Counted.{fault_counted, stay_counted}
+use Rattle.tp_top.proofs.Running.Expected.{if_ok, base_answered, base_refused, told_refusal, same_model_line, text_some}
+use Rattle.tp_top.proofs.Running.Written.{less_of_none}
 use Rattle.tp_top.proofs.answer.answer.Goals as goal
 
 pub returns-in-Ok-load-clause-wrote : goal.returns-in-Ok-load-clause-wrote

@@ -1,6 +1,6 @@
 use Rattle.std.proofs.Common.{None, length, map, refl, ap, subst, sym, ◌∙◌}
-use Rattle.tp_terms.proofs.NameLemmas.{Grows-length}
-use Rattle.tp_terms.proofs.ShownLemmas.{AreNamed-longer}
+use Rattle.tp_terms.proofs.Naming.Tables.{Grows-length}
+use Rattle.tp_terms.proofs.Places.Shown.{AreNamed-longer}
 use Rattle.tp_parse.specs.Ops.{table_of}
 use Rattle.tp_parse.specs.Texts.{goal_of}
 use Rattle.tp_clauses.specs.Model.{cause_of}
@@ -9,9 +9,9 @@ use Rattle.tp_top.specs.Expected.{for_goal}
 use Rattle.tp_top.specs.Metered.{MayCount}
 use Rattle.tp_top.specs.Told.{model_in, request_in}
 use Rattle.tp_top.specs.Written.{Writes}
-use Rattle.tp_top.proofs.CountedLemmas.{fault_counted, stay_counted}
-use Rattle.tp_top.proofs.RunAnswers.{goal_some, if_ok, goal_answered, goal_stopped, told_stop, same_goal_line}
-use Rattle.tp_top.proofs.WrittenLemmas.{less_of_none}
+use Rattle.tp_top.proofs.Metering.Counted.{fault_counted, stay_counted}
+use Rattle.tp_top.proofs.Running.Expected.{goal_some, if_ok, goal_answered, goal_stopped, told_stop, same_goal_line}
+use Rattle.tp_top.proofs.Running.Written.{less_of_none}
 use Rattle.tp_top.proofs.answer.answer_goal.Goals as goal
 
 pub answer_read-requires-clause-base : goal.answer_read-requires-clause-base

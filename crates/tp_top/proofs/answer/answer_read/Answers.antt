@@ -2,9 +2,9 @@ use Rattle.std.proofs.Common.{map, refl, subst}
 use Rattle.tp_top.specs.Metered.{MayCount}
 use Rattle.tp_top.specs.Told.{found_in, for_read, model_in, request_in}
 use Rattle.tp_top.specs.Written.{Writes}
-use Rattle.tp_top.proofs.CountedLemmas.{fault_counted}
-use Rattle.tp_top.proofs.RunAnswers.{read_answered, read_some}
-use Rattle.tp_top.proofs.WrittenLemmas.{less_of_none}
+use Rattle.tp_top.proofs.Metering.Counted.{fault_counted}
+use Rattle.tp_top.proofs.Running.Expected.{read_answered, read_some}
+use Rattle.tp_top.proofs.Running.Written.{less_of_none}
 use Rattle.tp_top.proofs.answer.answer_read.Goals as goal
 
 pub returns-in-Ok-clause-wrote : goal.returns-in-Ok-clause-wrote

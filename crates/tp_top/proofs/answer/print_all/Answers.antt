@@ -5,8 +5,8 @@ use Rattle.tp_engine.specs.Told.{Snapshot}
 use Rattle.tp_top.specs.Metered.{printed_kinds}
 use Rattle.tp_top.specs.Report.{end_by, last_history, with_last}
 use Rattle.tp_top.specs.Replies.{counts_in}
-use Rattle.tp_top.proofs.CountedLemmas.{counted_then_any}
-use Rattle.tp_top.proofs.RunAnswers.{if_ok, last_some, searched_writes}
+use Rattle.tp_top.proofs.Metering.Counted.{counted_then_any}
+use Rattle.tp_top.proofs.Running.Expected.{if_ok, last_some, searched_writes}
 use Rattle.tp_top.proofs.answer.print_all.Goals as goal
 
 pub returns-in-Ok-clause-wrote : goal.returns-in-Ok-clause-wrote

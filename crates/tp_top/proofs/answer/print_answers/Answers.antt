@@ -2,8 +2,8 @@ use Rattle.std.proofs.Common.{map, subst}
 use Rattle.tp_engine.specs.Ended.{outcome_of}
 use Rattle.tp_top.specs.Metered.{MayCount}
 use Rattle.tp_top.specs.Written.{writing}
-use Rattle.tp_top.proofs.RunAnswers.{search_printed}
-use Rattle.tp_top.proofs.WrittenLemmas.{last-numbered}
+use Rattle.tp_top.proofs.Running.Expected.{search_printed}
+use Rattle.tp_top.proofs.Running.Written.{last-numbered}
 use Rattle.tp_top.proofs.answer.print_answers.Goals as goal
 
 pub returns-clause-same_sink : goal.returns-clause-same_sink

@@ -1,6 +1,6 @@
 use Rattle.std.proofs.Common.{◌<◌, ◌∙◌, ap, arith, length}
 use Rattle.tp_meters.specs.Meters.{meter_next}
-use Rattle.tp_top.proofs.BoxedLemmas.{map-set_same, rest_stays, same_at, front_grows, same_length}
+use Rattle.tp_top.proofs.Metering.Boxes.{map-set_same, rest_stays, same_at, front_grows, same_length}
 use Rattle.tp_top.proofs.boxed.take_all.Goals as goal
 
 pub loop-meter-preserved : goal.loop-meter-preserved

@@ -1,11 +1,11 @@
 use Rattle.std.proofs.Common.{◌≡◌, ◌∙◌, refl, rules, w64, to_z, of_z}
 use Rattle.std.proofs.lemmas.Int.{to_z-of_z}
-use Rattle.tp_terms.proofs.AddedLemmas.{Adds-as, Adds-none}
+use Rattle.tp_terms.proofs.Texts.Added.{Adds-as, Adds-none}
 use Rattle.tp_report.specs.Lines.{lines_seen}
 use Rattle.tp_report.specs.Seen.{seen_in}
 use Rattle.tp_engine.specs.Answers.{answer_in}
 use Rattle.tp_top.specs.Told.{lines_of}
-use Rattle.tp_top.proofs.StoreUnderLemmas.{processes-named, events-stand, answer-shown}
+use Rattle.tp_top.proofs.Running.StoreUnder.{processes-named, events-stand, answer-shown}
 use Rattle.tp_top.proofs.lines.add_answer.Goals as goal
 
 pub answer_text-requires-clause-named_processes : goal.answer_text-requires-clause-named_processes

@@ -1,4 +1,4 @@
-use Rattle.tp_top.proofs.StoreUnderLemmas.{first-names}
+use Rattle.tp_top.proofs.Running.StoreUnder.{first-names}
 use Rattle.tp_top.proofs.lines.process_names.Goals as goal
 
 pub processes-preserved : goal.processes-preserved

@@ -1,9 +1,9 @@
 use Rattle.std.proofs.Common.{ap, append_assoc, chars, codes, flat_map, string_bytes, sym, ◌++◌, ◌∙◌}
 use Rattle.tp_meters.specs.Meters.{told}
-use Rattle.tp_terms.proofs.AddedLemmas.{Adds-none}
+use Rattle.tp_terms.proofs.Texts.Added.{Adds-none}
 use Rattle.tp_report.proofs.Parts.Calls.{second_stops, third_adds}
 use Rattle.tp_top.specs.Metered.{head_of, number_text}
-use Rattle.tp_top.proofs.MeterLemmas.{head-chars}
+use Rattle.tp_top.proofs.Metering.Histories.{head-chars}
 use Rattle.tp_top.proofs.meters.add_meter.Goals as goal
 
 pub returns : goal.returns

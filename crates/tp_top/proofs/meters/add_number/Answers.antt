@@ -1,7 +1,7 @@
 use Rattle.std.proofs.Common.{codes, ◌∙◌}
 use Rattle.std.specs.Prelude.{decimal}
 use Rattle.std.proofs.lemmas.Str.{chars-IsAscii}
-use Rattle.tp_terms.proofs.AddedLemmas.{Adds-as, Adds-none, Adds-then}
+use Rattle.tp_terms.proofs.Texts.Added.{Adds-as, Adds-none, Adds-then}
 use Rattle.tp_top.proofs.meters.add_number.Goals as goal
 
 pub returns : goal.returns

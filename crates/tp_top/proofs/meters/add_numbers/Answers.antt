@@ -1,11 +1,11 @@
 use Rattle.std.proofs.Common.{ap, chars, flat_map, drop, string_bytes, subst, sym, arith, ◌+◌, ◌∙◌}
 use Rattle.tp_meters.specs.Meters.{told}
 use Rattle.tp_terms.specs.Added.{Progress}
-use Rattle.tp_terms.proofs.AddedLemmas.{goes}
+use Rattle.tp_terms.proofs.Texts.Added.{goes}
 use Rattle.tp_report.proofs.Parts.Calls.{part_stops}
 use Rattle.tp_report.proofs.Parts.Joined.{left-next, left-none}
 use Rattle.tp_top.specs.Metered.{number_text}
-use Rattle.tp_top.proofs.MeterLemmas.{ends_before}
+use Rattle.tp_top.proofs.Metering.Histories.{ends_before}
 use Rattle.tp_top.proofs.meters.add_numbers.Goals as goal
 use Rattle.tp_top.proofs.meters.add_numbers.Goals.{in-Some+in_ok-add_number, in_default}
 

@@ -1,7 +1,7 @@
 use Rattle.std.proofs.Common.{map, ap, sym, arith, [], ◌∷◌, ◌++◌, ◌∙◌, take, length, slice_get}
 use Rattle.std.proofs.lemmas.List.{take_all}
 use Rattle.tp_report.proofs.Parts.Joined.{not_past}
-use Rattle.tp_top.proofs.MeterLemmas.{counted_more, folded, metered_in, next_event, none_counted}
+use Rattle.tp_top.proofs.Metering.Histories.{counted_more, folded, metered_in, next_event, none_counted}
 use Rattle.tp_top.proofs.meters.count.Goals as goal
 use Rattle.tp_top.proofs.meters.count.Goals.{in-Some, in_default}
 

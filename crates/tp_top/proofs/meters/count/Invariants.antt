@@ -1,7 +1,7 @@
 use Rattle.std.proofs.Common.{◌≡◌, List, map, take}
 use Rattle.tp_terms.specs.Term.{Name}
 use Rattle.tp_store.specs.Contents.{Contents}
-use Rattle.tp_top.proofs.MeterLemmas.{folded, metered_in}
+use Rattle.tp_top.proofs.Metering.Histories.{folded, metered_in}
 use Rattle.tp_top.proofs.meters.count.Given as goal
 
 -- the meters hold the numbers over the events so far

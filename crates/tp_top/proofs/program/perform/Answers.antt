@@ -4,7 +4,7 @@ use Rattle.tp_top.specs.Expected.{Answer, for_text}
 use Rattle.tp_top.specs.Metered.{MayCount}
 use Rattle.tp_top.specs.Told.{request_in}
 use Rattle.tp_top.specs.Written.{Writes}
-use Rattle.tp_top.proofs.RunLemmas.{long_written, out_of_memory, part_read, text_written}
+use Rattle.tp_top.proofs.Running.Parts.{long_written, out_of_memory, part_read, text_written}
 use Rattle.tp_top.proofs.program.perform.Goals as goal
 
 pub returns-in-Ok-clause-ended : goal.returns-in-Ok-clause-ended

@@ -1,7 +1,7 @@
 use Rattle.std.proofs.Common.{inr, refl, ap, subst, sym, ◌<◌, ◌∙◌}
 use Rattle.tp_words.specs.Command.{words_of}
-use Rattle.tp_words.proofs.RequestLemmas.{answers_some}
-use Rattle.tp_top.proofs.RunLemmas.{asked_answers, out_of_memory}
+use Rattle.tp_words.proofs.ReadsWords.Requests.{answers_some}
+use Rattle.tp_top.proofs.Running.Parts.{asked_answers, out_of_memory}
 use Rattle.tp_top.proofs.program.run.Goals as goal
 
 pub perform-requires : goal.perform-requires

@@ -1,5 +1,5 @@
 use Rattle.std.proofs.Common.{◌∙◌}
-use Rattle.tp_top.proofs.LineLemmas.{goal-line}
+use Rattle.tp_top.proofs.Running.Printed.{goal-line}
 use Rattle.tp_top.proofs.refusal.goal_refused.Goals as goal
 
 pub returns : goal.returns

@@ -1,5 +1,5 @@
 use Rattle.std.proofs.Common.{◌∙◌}
-use Rattle.tp_top.proofs.LineLemmas.{model-line}
+use Rattle.tp_top.proofs.Running.Printed.{model-line}
 use Rattle.tp_top.proofs.refusal.model_refused.Goals as goal
 
 pub returns : goal.returns

@@ -1,4 +1,4 @@
-use Rattle.tp_top.proofs.StoreUnderLemmas.{error-written}
+use Rattle.tp_top.proofs.Running.StoreUnder.{error-written}
 use Rattle.tp_top.proofs.report.error_text.Goals as goal
 
 pub returns : goal.returns

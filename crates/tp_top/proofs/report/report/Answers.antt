@@ -1,7 +1,7 @@
 use Rattle.std.proofs.Common.{[], ◌++◌, ap, ◌∙◌, chars}
 use Rattle.std.proofs.lemmas.Str.{chars-nil}
 use Rattle.tp_report.specs.End.{last_line}
-use Rattle.tp_top.proofs.LineLemmas.{reply-whole}
+use Rattle.tp_top.proofs.Running.Printed.{reply-whole}
 use Rattle.tp_top.proofs.report.report.Goals as goal
 
 pub returns : goal.returns

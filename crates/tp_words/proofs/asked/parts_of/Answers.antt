@@ -1,6 +1,6 @@
 use Rattle.std.proofs.Common.{codes, ◌∙◌}
 use Rattle.clap.specs.Words.{found_of}
-use Rattle.tp_words.proofs.RequestLemmas.{told_first, same_parts}
+use Rattle.tp_words.proofs.ReadsWords.Requests.{told_first, same_parts}
 use Rattle.tp_words.proofs.asked.parts_of.Goals as goal
 
 pub returns : goal.returns

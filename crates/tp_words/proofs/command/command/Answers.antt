@@ -4,7 +4,7 @@ use Rattle.std.specs.Prelude.{Some, codes}
 use Rattle.clap.specs.Words.{new_rule, rule_of, with_rule}
 use Rattle.clap.specs.declared.builder.action.ArgAction.TheVariants.{SetTrue}
 use Rattle.tp_words.specs.Command.{named}
-use Rattle.tp_words.proofs.CommandLemmas.{added_in_turn}
+use Rattle.tp_words.proofs.ReadsWords.Parsed.{added_in_turn}
 use Rattle.tp_words.proofs.command.command.Goals as goal
 
 pub returns : goal.returns

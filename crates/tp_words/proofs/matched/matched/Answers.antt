@@ -1,6 +1,6 @@
 use Rattle.std.proofs.lemmas.Result.{err_from_is_err_and}
 use Rattle.tp_words.specs.Command.{words_of}
-use Rattle.tp_words.proofs.CommandLemmas.{parsed, refused, usage_only}
+use Rattle.tp_words.proofs.ReadsWords.Parsed.{parsed, refused, usage_only}
 use Rattle.tp_words.proofs.matched.matched.Goals as goal
 
 pub returns-in_err-try_get_matches_from-clause-usage : goal.returns-in_err-try_get_matches_from-clause-usage

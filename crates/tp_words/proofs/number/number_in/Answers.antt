@@ -1,6 +1,6 @@
 use Rattle.std.proofs.Common.{rules, ◌≡◌, false}
 use Rattle.tp_words.specs.Number.{begins_with_plus}
-use Rattle.tp_words.proofs.DigitLemmas.{number_read}
+use Rattle.tp_words.proofs.ReadsWords.Numerals.{number_read}
 use Rattle.tp_words.proofs.number.number_in.Goals as goal
 
 pub returns : goal.returns

@@ -8,7 +8,7 @@ use Rattle.tp_lex.specs.declared.chars.Class.{Class}
 use Rattle.tp_lex.specs.declared.chars.Class.TheVariants.{Continuing, Graphic}
 use Rattle.tp_lex.specs.Integers.{base_of}
 use Rattle.tp_lex.specs.Layout.{after_gap}
-use Rattle.tp_lex.proofs.CharacterLemmas.{is_name_start-ascii, continuing-ascii}
+use Rattle.tp_lex.proofs.Characters.Ascii.{is_name_start-ascii, continuing-ascii}
 
 -- ---- facts of the characters of a list
 

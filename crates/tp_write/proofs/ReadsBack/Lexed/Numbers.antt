@@ -8,14 +8,14 @@ use lib.Utf8.{scalar}
 use Rattle.std.proofs.Math.Utf8.{low_scalar}
 use Rattle.std.proofs.lemmas.Bool.{lt-ltb, le-leb, not-false, and_from, agree_below, agree_below_at, ne_eqb}
 use Rattle.std.proofs.lemmas.Fmt.{decimal_is_IsNumeral, decimal_digit, first_decimal}
-use Rattle.tp_lex.proofs.CharacterLemmas.{continuing-ascii}
+use Rattle.tp_lex.proofs.Characters.Ascii.{continuing-ascii}
 use Rattle.tp_lex.specs.Characters.{is_graphic, is_name_start, is_variable_start, is_in_class}
 use Rattle.tp_lex.specs.declared.chars.Class.TheVariants.{Continuing}
 use Rattle.tp_lex.specs.Digits.{after_digits, value_with}
 use Rattle.tp_lex.specs.Integers.{after_zero, integer}
 use Rattle.tp_lex.specs.Form.{largest, form, name_of, value_of, number_value, integer_form}
 use Rattle.tp_lex.specs.declared.token.TokenKind.TheVariants as kind
-use Rattle.tp_lex.proofs.DigitLemmas.{pair_of, same_pair}
+use Rattle.tp_lex.proofs.Forms.Numerals.{pair_of, same_pair}
 use Rattle.tp_write.proofs.ReadsBack.Pieces.{Stand, Piece, variable, number}
 use Rattle.tp_write.proofs.ReadsBack.Lexed.Characters.{begins_calm, calm_of, run_ends, begins_gap, no_gap, no_name_start}
 use Rattle.tp_write.proofs.ReadsBack.Lexed.Words.{Forms, form_variable, form_digit, variable_spelled}

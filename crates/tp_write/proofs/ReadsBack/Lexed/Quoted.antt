@@ -14,7 +14,7 @@ use Rattle.tp_lex.specs.Quotes.{item, inside, with_first, stood_for, after_closi
 use Rattle.tp_lex.specs.declared.quotes.Item.TheVariants.{Stands, Closed}
 use Rattle.tp_lex.specs.declared.token.TokenKind.TheVariants as kind
 use Rattle.tp_lex.specs.Form.{name_of, value_of, quotes_form}
-use Rattle.tp_lex.proofs.QuoteLemmas.{inside-at}
+use Rattle.tp_lex.proofs.Forms.Quoted.{inside-at}
 use Rattle.tp_write.specs.Names.{is_control, escaped, code_escape, all_escaped, quoted}
 use Rattle.tp_write.proofs.ReadsBack.Pieces.{Stand, Piece}
 use Rattle.tp_write.proofs.ReadsBack.Lexed.Characters.{any_is, begins_calm, calm_of, no_gap}

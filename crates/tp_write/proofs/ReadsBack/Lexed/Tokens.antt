@@ -11,10 +11,10 @@ use Rattle.tp_lex.specs.Layout.{after_gap, past_layout}
 use Rattle.tp_lex.specs.Form.{form, name_of, value_of}
 use Rattle.tp_lex.specs.Next.{byte_of, from_byte, placed, token_in, next}
 use Rattle.tp_lex.specs.Tokens.{Lexed, ToEnd, stands_directly, lexed, is_end, with_token, tokens_from, tokens}
-use Rattle.tp_lex.proofs.SuffixLemmas.{EndsWith, ends-same, ends-trans}
-use Rattle.tp_lex.proofs.LayoutLemmas.{past_layout-goes, past_layout-stops}
-use Rattle.tp_lex.proofs.PlaceLemmas.{place_of}
-use Rattle.tp_lex.proofs.TokensLemmas.{tokens-next}
+use Rattle.tp_lex.proofs.Places.Suffixes.{EndsWith, ends-same, ends-trans}
+use Rattle.tp_lex.proofs.Forms.Gaps.{past_layout-goes, past_layout-stops}
+use Rattle.tp_lex.proofs.Places.Bytes.{place_of}
+use Rattle.tp_lex.proofs.TokensStand.Listed.{tokens-next}
 use Rattle.tp_write.proofs.ReadsBack.Pieces.{Stand, First, Directly, Spaced, Piece, gap, is_direct, spelled, token, laid, places_in}
 use Rattle.tp_write.proofs.ReadsBack.Lexed.Words.{Forms}
 

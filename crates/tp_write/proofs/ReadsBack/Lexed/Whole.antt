@@ -3,10 +3,10 @@ use Rattle.std.proofs.Common.{◌≡◌, ◌≢◌, ℕ, suc, ◌<◌, ◌≤◌
 use Rattle.std.specs.Str.{all_scalars}
 use Rattle.std.specs.Fmt.{signed_decimal}
 use Rattle.tp_terms.specs.Term.{Name, Term, Terms, Var, Int, Atom, Comp, NoMore, More, names_eq, count_of}
-use Rattle.tp_terms.proofs.TextLemmas.{names_eq-true, names_eq-false}
+use Rattle.tp_terms.proofs.Texts.Equal.{names_eq-true, names_eq-false}
 use Rattle.tp_lex.specs.declared.token.TokenKind.TheVariants as kind
 use Rattle.tp_lex.specs.Tokens.{tokens}
-use Rattle.tp_lex.proofs.PlaceLemmas.{scalars-front}
+use Rattle.tp_lex.proofs.Places.Bytes.{scalars-front}
 use Rattle.tp_parse.specs.Table.{Table, start_table}
 use Rattle.tp_lex.specs.Characters.{is_letter_digit}
 use Rattle.tp_write.specs.Names.{is_solo, is_graphic_name, quoted, name_text}

@@ -5,7 +5,7 @@ use Rattle.std.specs.Char.{is_digit}
 use Rattle.std.proofs.Math.Seq.{take-append_seam}
 use Rattle.std.proofs.lemmas.Bool.{eqb-true, and_parts, or_cases}
 use Rattle.tp_terms.specs.Term.{Name, names_eq}
-use Rattle.tp_terms.proofs.TextLemmas.{names_eq-Decides}
+use Rattle.tp_terms.proofs.Texts.Equal.{names_eq-Decides}
 use Rattle.tp_lex.specs.Characters.{percent, slash, star, dot, quote, double_quote, is_layout, is_graphic, is_name_start, is_variable_start, is_in_class, is_letter_digit, after_run}
 use Rattle.tp_lex.specs.declared.chars.Class.TheVariants.{Continuing, Graphic}
 use Rattle.tp_lex.specs.declared.token.TokenKind.{TokenKind}
@@ -14,7 +14,7 @@ use Rattle.tp_lex.specs.Integers.{integer}
 use Rattle.tp_lex.specs.Quotes.{inside, after_closing}
 use Rattle.tp_lex.specs.Layout.{closed, after_comment, after_gap, after_slash}
 use Rattle.tp_lex.specs.Form.{single, ends_clause, graphic_form, integer_form, quotes_form, single_form, form, before, name_of, value_of}
-use Rattle.tp_lex.proofs.TokenLemmas.{spelled-of}
+use Rattle.tp_lex.proofs.TokensStand.Each.{spelled-of}
 use Rattle.tp_write.specs.Names.{begins_comment, is_graphic_name, is_solo, is_bare}
 use Rattle.tp_write.proofs.ReadsBack.Pieces.{Stand, Piece, mark, minus_sign}
 use Rattle.tp_write.proofs.ReadsBack.Lexed.Characters.{begins_calm, calm_of, run_ends, begins_gap, no_gap, name_start_no_gap, graphic_of, no_name_start}

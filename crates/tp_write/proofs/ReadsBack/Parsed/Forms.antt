@@ -2,7 +2,7 @@
 use Rattle.std.proofs.Common.{◌≡◌, ℕ, zero, suc, ◌+◌, ◌<◌, ◌≤◌, max, ℤ, pos, negsuc, Bool, true, false, List, [], ◌∷◌, Option, Some, None, refl, sym, ap, subst, ◌∙◌, arith, ◌⊎◌, inl, inr, codes, le_trans}
 use Rattle.std.proofs.Math.Nat.{le-max_left, le-max_right}
 use Rattle.tp_terms.specs.Term.{Name, Term, Terms, Var, Int, Atom, Comp, NoMore, More, names_eq, count_of}
-use Rattle.tp_terms.proofs.TextLemmas.{names_eq-true}
+use Rattle.tp_terms.proofs.Texts.Equal.{names_eq-true}
 use Rattle.tp_lex.specs.Tokens.{Lexed}
 use Rattle.tp_lex.specs.declared.token.TokenKind.TheVariants as kind
 use Rattle.tp_parse.specs.Tree.{Tree}

@@ -1,7 +1,7 @@
 -- From tokens to the tree: the pieces of a term are read as its tree, wherever they stand.
 use Rattle.std.proofs.Common.{◌≡◌, ℕ, ◌≤◌, Bool, true, false, cond, List, [], ◌∷◌, Option, Some, None, refl, sym, subst, arith, codes}
 use Rattle.tp_terms.specs.Term.{Name, Term, Terms, Var, Int, Atom, Comp, NoMore, More, names_eq}
-use Rattle.tp_terms.proofs.TextLemmas.{names_eq-true}
+use Rattle.tp_terms.proofs.Texts.Equal.{names_eq-true}
 use Rattle.tp_parse.specs.Table.{Op, Table, start_table}
 use Rattle.tp_parse.specs.Grammar.{Reads}
 use Rattle.tp_write.specs.Text.{Form, Listed, Braces, Infix, Prefix, Plain, unary_form, binary_form, form_of, priority_by}

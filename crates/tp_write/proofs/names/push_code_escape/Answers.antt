@@ -1,4 +1,4 @@
-use Rattle.tp_terms.proofs.AddedLemmas.{Adds-exit, Adds-none, Adds-last, stops}
+use Rattle.tp_terms.proofs.Texts.Added.{Adds-exit, Adds-none, Adds-last, stops}
 use Rattle.tp_write.proofs.Writes.Names.{code_started, code_goes}
 use Rattle.tp_write.proofs.names.push_code_escape.Goals as goal
 

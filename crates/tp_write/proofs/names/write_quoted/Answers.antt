@@ -1,5 +1,5 @@
 use Rattle.std.proofs.Common.{chars}
-use Rattle.tp_terms.proofs.AddedLemmas.{Adds-exit, Adds-none}
+use Rattle.tp_terms.proofs.Texts.Added.{Adds-exit, Adds-none}
 use Rattle.tp_write.proofs.Writes.Names.{quoted-stops}
 use Rattle.tp_write.proofs.names.write_quoted.Goals as goal
 

@@ -1,6 +1,6 @@
 use Rattle.std.proofs.Common.{◌∙◌}
 use Rattle.std.proofs.lemmas.Str.{chars-IsAscii}
-use Rattle.tp_terms.proofs.AddedLemmas.{Adds-as}
+use Rattle.tp_terms.proofs.Texts.Added.{Adds-as}
 use Rattle.tp_write.proofs.write.push_number.Goals as goal
 
 pub returns : goal.returns

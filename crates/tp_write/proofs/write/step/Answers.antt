@@ -1,6 +1,6 @@
 use Rattle.std.proofs.Common.{◌<◌, ◌^◌, length, arith}
 use Rattle.std.proofs.lemmas.Result.{on_ok_weaker}
-use Rattle.tp_terms.proofs.AddedLemmas.{Adds-as}
+use Rattle.tp_terms.proofs.Texts.Added.{Adds-as}
 use Rattle.tp_parse.specs.Ops.{table_of}
 use Rattle.tp_write.proofs.Writes.Steps.{step-term, step-behind, step-args, own-name}
 use Rattle.tp_write.proofs.write.step.Goals as goal

@@ -1,6 +1,6 @@
 use Rattle.std.specs.Prelude.{vec_len}
 use Rattle.std.proofs.Common.{◌≡◌, ◌++◌, [], ◌∷◌, length, arith, chars, string_bytes, refl, sym, ap, subst, ◌∙◌}
-use Rattle.tp_terms.proofs.AddedLemmas.{Adds-exit, Adds-none}
+use Rattle.tp_terms.proofs.Texts.Added.{Adds-exit, Adds-none}
 use Rattle.tp_parse.specs.Ops.{table_of}
 use Rattle.tp_write.specs.declared.pieces.Piece.TheVariants.{Term}
 use Rattle.tp_write.specs.declared.pieces.Position.TheVariants.{Within}

@@ -1,4 +1,4 @@
-use Rattle.tp_machine.proofs.Calling.{calls_alone}
+use Rattle.tp_machine.proofs.Enters.Calling.{calls_alone}
 use Rattle.tp_machine.proofs.machine.Machine.call_all.Goals as goal
 
 pub call_goal-requires-clause-calls : goal.call_goal-requires-clause-calls

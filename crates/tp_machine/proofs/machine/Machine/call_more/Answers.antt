@@ -1,4 +1,4 @@
-use Rattle.tp_machine.proofs.Calling.{more_there, unbound_refused, number_refused}
+use Rattle.tp_machine.proofs.Enters.Calling.{more_there, unbound_refused, number_refused}
 use Rattle.tp_machine.proofs.machine.Machine.call_more.Goals as goal
 
 pub met-requires : goal.met-requires

@@ -1,4 +1,4 @@
-use Rattle.tp_machine.proofs.Calling.{too_many}
+use Rattle.tp_machine.proofs.Enters.Calling.{too_many}
 use Rattle.tp_machine.proofs.machine.Machine.call_named.Goals as goal
 
 pub raise-requires-clause-cause : goal.raise-requires-clause-cause

@@ -1,7 +1,7 @@
 use Rattle.std.proofs.Common.{refl, ◌+◌, ◌∙◌, ap, length}
 use Rattle.tp_state.specs.State.{held_of}
 use Rattle.tp_machine.specs.Machine.{base_in, choices_of}
-use Rattle.tp_machine.proofs.Cut.{cut_is}
+use Rattle.tp_machine.proofs.GoesBack.Cut.{cut_is}
 use Rattle.tp_machine.proofs.Step.Items.{commits, rest-follows}
 use Rattle.tp_machine.proofs.machine.Machine.commit.Goals as goal
 

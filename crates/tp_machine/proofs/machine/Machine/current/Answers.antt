@@ -1,6 +1,6 @@
 use Rattle.std.proofs.Common.{ap, sym, ◌∙◌, ◌∷◌}
 use Rattle.tp_control.specs.Lists.{items_at}
-use Rattle.tp_machine.proofs.GoalsMet.{not_named}
+use Rattle.tp_machine.proofs.Enters.GoalsMet.{not_named}
 use Rattle.tp_machine.proofs.machine.Machine.current.Goals as goal
 
 pub returns-in_default-met : goal.returns-in_default-met

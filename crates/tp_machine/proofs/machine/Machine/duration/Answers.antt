@@ -1,5 +1,5 @@
 use Rattle.tp_meaning.specs.declared.goals.ProcessGoal.TheVariants.{Hold}
-use Rattle.tp_machine.proofs.Times.{grew_program, grew_rests, on_err}
+use Rattle.tp_machine.proofs.Gives.Times.{grew_program, grew_rests, on_err}
 use Rattle.tp_machine.proofs.Step.Acting.{first_there}
 use Rattle.tp_machine.proofs.Step.Holding.{duration_given}
 use Rattle.tp_machine.proofs.machine.Machine.duration.Goals as goal

@@ -5,7 +5,7 @@ use Rattle.tp_machine.specs.declared.errors.Domain.TheVariants.{EndTime}
 use Rattle.tp_machine.specs.Times.{IsTime}
 use Rattle.tp_machine.specs.declared.making.Ending.{Ending}
 use Rattle.tp_machine.specs.Making.{IsEnd}
-use Rattle.tp_machine.proofs.Times.{grew_program, grew_rests, on_err}
+use Rattle.tp_machine.proofs.Gives.Times.{grew_program, grew_rests, on_err}
 use Rattle.tp_machine.proofs.Step.Making.{end_given, end_inf, new_there}
 use Rattle.tp_machine.proofs.machine.Machine.end_time.Goals as goal
 

@@ -1,8 +1,8 @@
 use Rattle.std.proofs.Common.{length, ap, sym, subst, ◌∙◌}
 use Rattle.tp_terms.specs.Shown.{AreNamed}
 use Rattle.tp_machine.specs.Heads.{EntersClause}
-use Rattle.tp_machine.proofs.HeadsMet.{head_is}
-use Rattle.tp_machine.proofs.Matched.{id_there, here_is}
+use Rattle.tp_machine.proofs.Meets.HeadsMet.{head_is}
+use Rattle.tp_machine.proofs.Meets.Matched.{id_there, here_is}
 use Rattle.tp_state.specs.Acts.{bodied}
 use Rattle.tp_state.proofs.GoingBack.Follows.{follows-then}
 use Rattle.tp_machine.proofs.Step.Items.{rest-follows}

@@ -1,5 +1,5 @@
-use Rattle.tp_machine.proofs.Entering.{entering_rests}
-use Rattle.tp_machine.proofs.Calling.{call_entered}
+use Rattle.tp_machine.proofs.Enters.Entering.{entering_rests}
+use Rattle.tp_machine.proofs.Enters.Calling.{call_entered}
 use Rattle.tp_machine.proofs.machine.Machine.enter_called.Goals as goal
 
 pub enter-requires : goal.enter-requires

@@ -1,4 +1,4 @@
-use Rattle.tp_machine.proofs.Entering.{entering_rests}
+use Rattle.tp_machine.proofs.Enters.Entering.{entering_rests}
 use Rattle.tp_machine.proofs.Step.Acting.{first_there}
 use Rattle.tp_machine.proofs.Step.Waiting.{condition_entered}
 use Rattle.tp_meaning.specs.declared.goals.ProcessGoal.TheVariants.{Wait}

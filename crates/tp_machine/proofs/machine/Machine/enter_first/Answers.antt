@@ -1,4 +1,4 @@
-use Rattle.tp_machine.proofs.Entering.{first_there, entering_rests, entering_first}
+use Rattle.tp_machine.proofs.Enters.Entering.{first_there, entering_rests, entering_first}
 use Rattle.tp_machine.proofs.machine.Machine.enter_first.Goals as goal
 
 pub enter-requires : goal.enter-requires

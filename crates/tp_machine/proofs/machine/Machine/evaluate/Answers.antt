@@ -1,4 +1,4 @@
-use Rattle.tp_machine.proofs.Lent.{may_run, place_there, value_back, grew}
+use Rattle.tp_machine.proofs.Grows.Lent.{may_run, place_there, value_back, grew}
 use Rattle.tp_machine.proofs.machine.Machine.evaluate.Goals as goal
 
 pub eval-value-requires-clause-heap : goal.eval-value-requires-clause-heap

@@ -1,5 +1,5 @@
 use Rattle.std.proofs.Common.{sym, ◌∙◌}
-use Rattle.tp_machine.proofs.Forgotten.{none_open, some_open}
+use Rattle.tp_machine.proofs.GoesBack.Forgotten.{none_open, some_open}
 use Rattle.tp_machine.proofs.machine.Machine.forget.Goals as goal
 
 pub returns-then-is_empty : goal.returns-then-is_empty

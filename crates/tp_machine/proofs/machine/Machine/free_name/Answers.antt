@@ -1,5 +1,5 @@
 use Rattle.std.proofs.Common.{sym, ◌∙◌}
-use Rattle.tp_store.proofs.StoreLemmas.{value-unbound}
+use Rattle.tp_store.proofs.Standing.Facts.{value-unbound}
 use Rattle.tp_machine.proofs.Step.Making.{free_compound, free_number, free_unbound}
 use Rattle.tp_machine.proofs.machine.Machine.free_name.Goals as goal
 

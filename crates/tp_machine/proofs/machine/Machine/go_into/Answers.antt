@@ -1,6 +1,6 @@
 use Rattle.tp_state.proofs.GoingBack.Follows.{follows-then}
 use Rattle.tp_machine.proofs.Step.Items.{rest-follows}
-use Rattle.tp_machine.proofs.Calling.{calls_goal}
+use Rattle.tp_machine.proofs.Enters.Calling.{calls_goal}
 use Rattle.tp_machine.proofs.machine.Machine.go_into.Goals as goal
 
 pub returns-clause-done : goal.returns-clause-done

@@ -1,6 +1,6 @@
 use Rattle.std.proofs.Common.{sym, subst, ◌∙◌, SFits, w64, rules}
 use Rattle.std.proofs.lemmas.Int.{to_z-of_z}
-use Rattle.tp_machine.proofs.Times.{same_sum}
+use Rattle.tp_machine.proofs.Gives.Times.{same_sum}
 use Rattle.tp_machine.proofs.Step.Holding.{delays, overflow_cause, same_delays}
 use Rattle.tp_machine.proofs.machine.Machine.hold_for.Goals as goal
 

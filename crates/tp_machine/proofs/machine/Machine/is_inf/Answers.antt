@@ -1,6 +1,6 @@
 use Rattle.std.proofs.Common.{sym, ap, ◌∙◌}
 use Rattle.tp_meaning.specs.Process.{is_inf}
-use Rattle.tp_store.proofs.StoreLemmas.{value-unbound}
+use Rattle.tp_store.proofs.Standing.Facts.{value-unbound}
 use Rattle.tp_machine.proofs.Step.Making.{inf_atom}
 use Rattle.tp_machine.proofs.machine.Machine.is_inf.Goals as goal
 

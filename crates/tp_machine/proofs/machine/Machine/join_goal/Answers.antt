@@ -1,5 +1,5 @@
-use Rattle.tp_machine.proofs.Calling.{further_there, goal_callable, has_room, joins, least, more_there, second_there}
-use Rattle.tp_machine.proofs.Grown.{rests}
+use Rattle.tp_machine.proofs.Enters.Calling.{further_there, goal_callable, has_room, joins, least, more_there, second_there}
+use Rattle.tp_machine.proofs.Grows.Grown.{rests}
 use Rattle.tp_machine.proofs.machine.Machine.join_goal.Goals as goal
 
 pub argument-more-requires : goal.argument-more-requires

@@ -4,9 +4,9 @@ use Rattle.tp_store.specs.Contents.{Contents}
 use Rattle.tp_machine.specs.Heads.{hits}
 use Rattle.tp_machine.specs.Meets.{found_from}
 use Rattle.tp_machine.specs.Machine.{IsStanding}
-use Rattle.tp_machine.proofs.HeadsMet.{hit_here, hit_later}
+use Rattle.tp_machine.proofs.Meets.HeadsMet.{hit_here, hit_later}
 use Rattle.tp_machine.proofs.Step.First.{standing}
-use Rattle.tp_machine.proofs.Matched.{id_there, here_is, hit_is}
+use Rattle.tp_machine.proofs.Meets.Matched.{id_there, here_is, hit_is}
 use Rattle.tp_machine.proofs.machine.Machine.next_match.Goals as goal
 
 pub clause-clause-requires : goal.clause-clause-requires

@@ -3,7 +3,7 @@ use Rattle.tp_machine.specs.declared.machine.Machine.{Machine}
 use Rattle.tp_store.specs.Contents.{Contents}
 use Rattle.tp_machine.specs.Machine.{IsStanding}
 use Rattle.tp_machine.specs.Mail.{box_in, may_take, message_from}
-use Rattle.tp_machine.proofs.HeadsMet.{hit_here, hit_later}
+use Rattle.tp_machine.proofs.Meets.HeadsMet.{hit_here, hit_later}
 use Rattle.tp_machine.proofs.Step.Acting.{first_there}
 use Rattle.tp_machine.proofs.Step.First.{standing}
 use Rattle.tp_machine.proofs.Step.Taking.{drop_here, may_take-is, message_stands, own_box}

@@ -1,5 +1,5 @@
 use Rattle.std.proofs.Common.{◌≡◌, true, length, sym, ◌∙◌}
-use Rattle.tp_store.proofs.StoreLemmas.{value-unbound}
+use Rattle.tp_store.proofs.Standing.Facts.{value-unbound}
 use Rattle.tp_machine.proofs.Step.Receiving.{element_is, ends_atom, ends_comp, ends_empty, ends_int, ends_unbound}
 use Rattle.tp_machine.proofs.machine.Machine.next_receiver.Goals as goal
 

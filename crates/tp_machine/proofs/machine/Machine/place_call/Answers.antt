@@ -5,7 +5,7 @@ use Rattle.tp_terms.specs.declared.symbols.TheConstants.{CALL}
 use Rattle.tp_terms.specs.Shown.{StandsBefore}
 use Rattle.tp_store.specs.Contents.{IsNumbered, with_cell}
 use Rattle.std.proofs.Common.{length}
-use Rattle.tp_machine.proofs.Times.{grew_rests}
+use Rattle.tp_machine.proofs.Gives.Times.{grew_rests}
 use Rattle.tp_machine.proofs.Step.Acting.{first_there}
 use Rattle.tp_machine.proofs.Step.Making.{call_grew, goal_placed}
 use Rattle.tp_machine.proofs.machine.Machine.place_call.Goals as goal

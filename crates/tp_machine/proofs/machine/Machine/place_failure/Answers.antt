@@ -1,5 +1,5 @@
-use Rattle.tp_machine.proofs.Failure.{failure_adds, failure_named, failure_is, stands_still}
-use Rattle.tp_machine.proofs.Grown.{rests}
+use Rattle.tp_machine.proofs.Grows.Failure.{failure_adds, failure_named, failure_is, stands_still}
+use Rattle.tp_machine.proofs.Grows.Grown.{rests}
 use Rattle.tp_machine.proofs.machine.Machine.place_failure.Goals as goal
 
 pub returns-clause-rests : goal.returns-clause-rests

@@ -1,5 +1,5 @@
 use Rattle.std.proofs.Common.{length, sym, ◌∙◌}
-use Rattle.tp_store.proofs.StoreLemmas.{value-unbound}
+use Rattle.tp_store.proofs.Standing.Facts.{value-unbound}
 use Rattle.tp_machine.proofs.Step.Receiving.{names_other, names_unbound}
 use Rattle.tp_machine.proofs.machine.Machine.receiver.Goals as goal
 

@@ -1,6 +1,6 @@
 use Rattle.std.proofs.Common.{◌≡◌, ◌++◌, ◌∷◌, [], IfSome, IfNone, subst}
 use Rattle.tp_control.specs.declared.choices.Choice.{Choice}
-use Rattle.tp_machine.proofs.Rewound.{known, stays, goes_back}
+use Rattle.tp_machine.proofs.GoesBack.Rewound.{known, stays, goes_back}
 use Rattle.tp_machine.proofs.machine.Machine.rewind.Goals as goal
 
 pub returns-in-None : goal.returns-in-None

@@ -1,7 +1,7 @@
 use Rattle.std.proofs.Common.{rules, ◌<◌, ◌^◌, length}
 use Rattle.tp_machine.specs.BuiltIns.{Ran}
-use Rattle.tp_machine.proofs.Raised.{if_ok}
-use Rattle.tp_machine.proofs.Lent.{may_run, has_arguments, ran}
+use Rattle.tp_machine.proofs.Gives.Raised.{if_ok}
+use Rattle.tp_machine.proofs.Grows.Lent.{may_run, has_arguments, ran}
 use Rattle.tp_machine.proofs.machine.Machine.run_built_in.Goals as goal
 
 pub builtin-outcome-requires-clause-heap : goal.builtin-outcome-requires-clause-heap

@@ -6,7 +6,7 @@ use Rattle.tp_machine.specs.declared.machine.Machine.{Machine}
 use Rattle.tp_machine.specs.Machine.{Steps, world_in}
 use Rattle.tp_machine.specs.Meets.{clauses_of}
 use Rattle.tp_machine.specs.Goes.{IsKept}
-use Rattle.tp_machine.proofs.Matched.{no_clauses, some_clauses, is_none, not_none}
+use Rattle.tp_machine.proofs.Meets.Matched.{no_clauses, some_clauses, is_none, not_none}
 use Rattle.tp_machine.proofs.Step.Clauses.{is_unknown, runs_none, runs_some, next_untried}
 use Rattle.tp_machine.proofs.Step.Back.{hits_kept, untried-same}
 use Rattle.tp_machine.proofs.Step.Parts.{to_branch}

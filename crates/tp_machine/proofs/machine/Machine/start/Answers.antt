@@ -1,7 +1,7 @@
 use Rattle.std.proofs.Common.{◌≡◌, [], IfSome, refl, subst}
 use Rattle.tp_state.specs.declared.state.State.{State}
 use Rattle.tp_terms.specs.Names.{IsTable}
-use Rattle.tp_machine.proofs.Begun.{begun, start_at, start_none}
+use Rattle.tp_machine.proofs.Enters.Begun.{begun, start_at, start_none}
 use Rattle.tp_machine.proofs.machine.Machine.start.Goals as goal
 
 pub returns-in_default-clause-none : goal.returns-in_default-clause-none

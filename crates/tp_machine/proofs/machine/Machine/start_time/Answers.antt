@@ -3,7 +3,7 @@ use Rattle.std.proofs.lemmas.Int.{to_z-of_z}
 use Rattle.tp_store.specs.Contents.{seen}
 use Rattle.tp_machine.specs.declared.errors.Domain.TheVariants.{StartTime}
 use Rattle.tp_machine.specs.Times.{IsTime}
-use Rattle.tp_machine.proofs.Times.{grew_program, grew_rests, on_err}
+use Rattle.tp_machine.proofs.Gives.Times.{grew_program, grew_rests, on_err}
 use Rattle.tp_machine.proofs.Step.Making.{new_there, start_given}
 use Rattle.tp_machine.proofs.machine.Machine.start_time.Goals as goal
 

@@ -1,4 +1,4 @@
-use Rattle.tp_machine.proofs.Forgotten.{steps_on}
+use Rattle.tp_machine.proofs.GoesBack.Forgotten.{steps_on}
 use Rattle.tp_machine.proofs.machine.Machine.step.Goals as goal
 
 pub returns-clause-stepped : goal.returns-clause-stepped

@@ -7,7 +7,7 @@ use Rattle.tp_arith.specs.declared.raising.Raise.{Raise}
 use Rattle.tp_machine.specs.BuiltIns.{heap_in}
 use Rattle.tp_machine.specs.declared.values.Given.{Given}
 use Rattle.tp_machine.specs.Times.{IsTime}
-use Rattle.tp_machine.proofs.Times.{none_is, same_timely, time_is}
+use Rattle.tp_machine.proofs.Gives.Times.{none_is, same_timely, time_is}
 use Rattle.tp_machine.proofs.machine.Machine.time_at.Goals as goal
 
 pub returns-in-Ok-clause-time : goal.returns-in-Ok-clause-time

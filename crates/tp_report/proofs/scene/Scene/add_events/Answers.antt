@@ -1,5 +1,5 @@
 use Rattle.std.proofs.Common.{◌≤◌, chars, string_bytes, length, refl, sym, ap, ◌∙◌, arith}
-use Rattle.tp_terms.proofs.AddedLemmas.{begins, goes, ends}
+use Rattle.tp_terms.proofs.Texts.Added.{begins, goes, ends}
 use Rattle.tp_report.specs.Seen.{seen_by}
 use Rattle.tp_report.specs.Lines.{event_text, events_text}
 use Rattle.tp_report.proofs.Parts.Calls.{part_stops}

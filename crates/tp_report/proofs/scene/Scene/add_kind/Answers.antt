@@ -1,5 +1,5 @@
 use Rattle.std.specs.Str.{chars}
-use Rattle.tp_terms.proofs.AddedLemmas.{Adds-as}
+use Rattle.tp_terms.proofs.Texts.Added.{Adds-as}
 use Rattle.tp_report.specs.Seen.{seen_by}
 use Rattle.tp_report.proofs.AnswerLines.Pieces.{words_as}
 use Rattle.tp_report.proofs.scene.Scene.add_kind.Goals as goal

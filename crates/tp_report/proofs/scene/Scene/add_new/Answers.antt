@@ -2,7 +2,7 @@ use Rattle.std.proofs.Common.{w64, sym}
 use Rattle.std.proofs.lemmas.Int.{to_z-of_z}
 use Rattle.std.proofs.lemmas.Option.{get_or_from_slice_get}
 use Rattle.std.specs.Str.{chars}
-use Rattle.tp_terms.proofs.AddedLemmas.{Adds-as}
+use Rattle.tp_terms.proofs.Texts.Added.{Adds-as}
 use Rattle.tp_report.proofs.AnswerLines.Pieces.{new-pieces}
 use Rattle.tp_report.proofs.scene.Scene.add_new.Goals as goal
 

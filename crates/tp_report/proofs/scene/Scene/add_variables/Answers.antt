@@ -1,6 +1,6 @@
 use Rattle.std.proofs.Common.{chars, string_bytes, refl}
 use Rattle.std.proofs.lemmas.Option.{slice_get_read}
-use Rattle.tp_terms.proofs.AddedLemmas.{begins, goes, ends}
+use Rattle.tp_terms.proofs.Texts.Added.{begins, goes, ends}
 use Rattle.tp_report.specs.Seen.{seen_by}
 use Rattle.tp_report.specs.Lines.{variable_text, variables_text}
 use Rattle.tp_report.proofs.Parts.Calls.{part_stops}

@@ -1,6 +1,6 @@
 use Rattle.std.proofs.Common.{ap, sym, subst, ◌≤◌, length}
 use Rattle.tp_store.specs.Contents.{Contents, IsStore, cut_to_mark}
-use Rattle.tp_store.proofs.StoreLemmas.{can-go-back}
+use Rattle.tp_store.proofs.Standing.Facts.{can-go-back}
 use Rattle.tp_state.specs.Plain.{Plain}
 use Rattle.tp_state.proofs.state.State.rewind.Goals as goal
 

@@ -1,5 +1,5 @@
 use Rattle.std.proofs.Common.{◌≡◌, Some, slice_get, subst}
-use Rattle.tp_terms.proofs.ShownLemmas.{AreNamed-cell}
+use Rattle.tp_terms.proofs.Places.Shown.{AreNamed-cell}
 use Rattle.tp_store.specs.Contents.{Contents}
 use Rattle.tp_store.proofs.store.Store.top.Goals as goal
 

@@ -1,6 +1,6 @@
 use Rattle.std.proofs.Common.{slice_get, ap, ◌∙◌}
 use Rattle.std.proofs.lemmas.Str.{scalars-chars}
-use Rattle.tp_terms.proofs.NameLemmas.{IsTable-with_name, Grows-with_name, Grows-keeps, known_place, with_name-present}
+use Rattle.tp_terms.proofs.Naming.Tables.{IsTable-with_name, Grows-with_name, Grows-keeps, known_place, with_name-present}
 use Rattle.tp_terms.proofs.atoms.Atoms.intern.Goals as goal
 
 pub invariant_of-self-2 : goal.invariant_of-self-2

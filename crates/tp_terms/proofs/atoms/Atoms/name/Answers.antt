@@ -1,6 +1,6 @@
 use Rattle.std.proofs.Common.{◌≡◌, Some, slice_get, chars, sym, ap, ◌∙◌}
-use Rattle.tp_terms.proofs.TextLemmas.{bytes-chars}
-use Rattle.tp_terms.proofs.NameLemmas.{name_at-slice_get, slice_get-names_of}
+use Rattle.tp_terms.proofs.Texts.Equal.{bytes-chars}
+use Rattle.tp_terms.proofs.Naming.Tables.{name_at-slice_get, slice_get-names_of}
 use Rattle.tp_terms.proofs.atoms.Atoms.name.Goals as goal
 
 pub returns-clause-bytes : goal.returns-clause-bytes

@@ -1,4 +1,4 @@
-use Rattle.tp_terms.proofs.StartLemmas.{names-start, table-start}
+use Rattle.tp_terms.proofs.Naming.Start.{names-start, table-start}
 use Rattle.tp_terms.proofs.atoms.Atoms.start.Goals as goal
 
 pub invariant_of-result : goal.invariant_of-result

@@ -2,8 +2,8 @@ use Rattle.std.proofs.Common.{◌≡◌, ap, map, sym, subst, take, ◌∙◌}
 use Rattle.std.proofs.lemmas.List.{take-map}
 use Rattle.tp_terms.specs.Kept.{cell_of}
 use Rattle.tp_terms.specs.Shown.{AreBuilt}
-use Rattle.tp_terms.proofs.KeptLemmas.{AreBuilt-take}
-use Rattle.tp_terms.proofs.ShownLemmas.{shows-take}
+use Rattle.tp_terms.proofs.Places.Kept.{AreBuilt-take}
+use Rattle.tp_terms.proofs.Places.Shown.{shows-take}
 use Rattle.tp_terms.proofs.cells.Cells.cut_to.Goals as goal
 
 stood : (c : goal.After-truncate) → map cell_of c.self.inside.cells.items ≡ c.args.self.now.items

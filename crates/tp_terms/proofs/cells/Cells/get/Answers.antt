@@ -2,8 +2,8 @@ use Rattle.std.proofs.Common.{◌≡◌, ap, map, sym, Some, slice_get, length, 
 use Rattle.std.proofs.lemmas.List.{length-map}
 use Rattle.std.proofs.lemmas.Option.{slice_get_read}
 use Rattle.tp_terms.specs.Kept.{cell_of}
-use Rattle.tp_terms.proofs.KeptLemmas.{kept-at}
-use Rattle.tp_terms.proofs.ShownLemmas.{shows-cell}
+use Rattle.tp_terms.proofs.Places.Kept.{kept-at}
+use Rattle.tp_terms.proofs.Places.Shown.{shows-cell}
 use Rattle.tp_terms.proofs.cells.Cells.get.Goals as goal
 
 pub returns-clause-shown : goal.returns-clause-shown

@@ -2,8 +2,8 @@ use Rattle.std.proofs.Common.{◌≡◌, ap, subst, sym, [], ◌∷◌, ◌++◌
 use Rattle.std.proofs.lemmas.List.{length-map}
 use Rattle.tp_terms.specs.Kept.{cell_of}
 use Rattle.tp_terms.specs.Shown.{AreBuilt}
-use Rattle.tp_terms.proofs.KeptLemmas.{map-push, AreBuilt-push}
-use Rattle.tp_terms.proofs.ShownLemmas.{shows-append, shows-push}
+use Rattle.tp_terms.proofs.Places.Kept.{map-push, AreBuilt-push}
+use Rattle.tp_terms.proofs.Places.Shown.{shows-append, shows-push}
 use Rattle.tp_terms.proofs.cells.Cells.push.Goals as goal
 
 stood : (c : goal.In_ok-push) → map cell_of c.self.inside.cells.items ≡ c.args.self.now.items

@@ -1,12 +1,12 @@
 use Rattle.std.proofs.Common.{◌≡◌, ◌∙◌, ◌++◌, Some, refl, ap, subst, chars, string_bytes, encode_utf8_all}
 use Rattle.std.proofs.lemmas.Str.{IsUtf8-string_bytes, chars-nil}
 use Rattle.tp_outside.specs.Taken.{added, HasPrefix}
-use Rattle.tp_terms.proofs.TextLemmas.{bytes-chars}
+use Rattle.tp_terms.proofs.Texts.Equal.{bytes-chars}
 use Rattle.tp_engine.specs.Answers.{answer_in}
 use Rattle.tp_engine.specs.Told.{world_in}
 use Rattle.tp_top.specs.Metered.{meter_lines, printed_kinds}
 use Rattle.tp_top.specs.Told.{lines_of, shown}
-use Rattle.tp_top.proofs.CountedLemmas.{unprinted_any}
+use Rattle.tp_top.proofs.Metering.Counted.{unprinted_any}
 use Rattle.tp_top.proofs.lines.PrinterAnswers.answer.Goals as goal
 
 pub returns-in-Ok-clause-taken : goal.returns-in-Ok-clause-taken

@@ -1,9 +1,9 @@
 use Rattle.std.proofs.Common.{◌∙◌, ℕ, List, All, flat_map, map, ap, subst, sym}
 use Rattle.tp_meters.specs.declared.MeterKind.{MeterKind}
-use Rattle.tp_terms.proofs.AddedLemmas.{Adds-as}
+use Rattle.tp_terms.proofs.Texts.Added.{Adds-as}
 use Rattle.tp_engine.specs.Told.{world_in}
 use Rattle.tp_top.specs.Metered.{counted, meter_line, meter_lines, TellsFew}
-use Rattle.tp_top.proofs.MeterLemmas.{hold_few, hold_lines}
+use Rattle.tp_top.proofs.Metering.Histories.{hold_few, hold_lines}
 use Rattle.tp_top.proofs.meters.VecBoxDynMeterCounting.count.Goals as goal
 
 pub add_meters-requires : goal.add_meters-requires

@@ -1,0 +1,4 @@
+-- Goals met with the heads of clauses.
+pub mod HeadsMet
+pub mod Matched
+pub mod Program
