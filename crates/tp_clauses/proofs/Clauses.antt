@@ -2,3 +2,5 @@
 pub mod Added
 pub mod Moved
 pub mod Places
+pub mod Ranks
+pub mod Rising

@@ -5,7 +5,11 @@ pub mod Loaded
 pub mod Kinds
 pub mod Moved
 pub mod Indexed
+pub mod Ranks
 pub mod Bodies
 pub mod Told
 pub mod Parts
 pub mod Goal
+pub mod First
+pub mod Matching
+pub mod Candidates

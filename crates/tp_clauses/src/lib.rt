@@ -3,8 +3,10 @@
 
 mod append;
 mod base;
+mod candidates;
 mod directive;
 mod fault;
+mod first;
 mod index;
 mod kind;
 mod load;
@@ -12,3 +14,4 @@ mod parts;
 
 pub use base::{Base, ClauseId, ClauseView};
 pub use fault::{Cause, LoadFault};
+pub use first::FirstArg;

@@ -1,6 +1,6 @@
 //! The clauses of a text, one read term after another.
 
-ghost use Rattle.std.specs.Prelude.{◌≡◌, ◌<◌, ◌≤◌, ◌+◌, List, length, slice_get, true, Ok, Err, Some, IfOk};
+ghost use Rattle.std.specs.Prelude.{◌≡◌, ◌<◌, ◌≤◌, ◌+◌, List, length, slice_get, true, Ok, Err, Some, IfOk, OnOk};
 ghost use Rattle.std.specs.Result.{is_ok};
 ghost use Rattle.std.specs.Str.{IsCharBoundary};
 ghost use Rattle.tp_terms.specs.Term.{Name};
@@ -50,6 +50,7 @@ pub fn load_text(alloc: Global, text: &str, atoms: &mut Atoms) -> Result<Parts, 
     ensures parts { IfOk result IsParts }
     ensures grows { Grows atoms.old atoms.new }
     ensures memory { result ≡ Err LoadFault.NoMemory → AsksMemory text.now }
+    ensures token { OnOk result (is_ok (next text.now 0) ≡ true) }
 {
     let mut parts = match begin(alloc, text) {
         Ok(parts) => parts,
@@ -71,7 +72,8 @@ pub fn load_text(alloc: Global, text: &str, atoms: &mut Atoms) -> Result<Parts, 
 
 /// No clause yet, where the first token isn't refused.
 fn begin(alloc: Global, text: &str) -> Result<Parts, LoadFault>
-    ensures { TellsBegin result (next text.now 0) }
+    ensures told { TellsBegin result (next text.now 0) }
+    ensures token { OnOk result (is_ok (next text.now 0) ≡ true) }
 {
     match token_at(text, 0, 1) {
         Ok(_) => match empty(alloc) {

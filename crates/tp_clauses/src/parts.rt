@@ -26,8 +26,10 @@ pub struct Parts {
     pub store: Store,
     /// The clauses.
     pub clauses: Vec<ClauseView>,
-    /// Their places.
-    pub index: Index,
+    /// The place of each clause among those of its name and number of arguments.
+    pub ranks: Vec<usize>,
+    /// The places of the clauses of each name and number of arguments.
+    pub index: Index<Key>,
     /// The operators.
     pub ops: Ops,
 }
@@ -39,6 +41,7 @@ pub fn empty(alloc: Global) -> Result<Parts, NoMemory>
     Ok(Parts {
         store: Store::new(alloc),
         clauses: Vec::new(alloc),
+        ranks: Vec::new(alloc),
         index: Index::new(alloc),
         ops: Ops::start(alloc)?,
     })
@@ -80,7 +83,8 @@ pub fn add_clause(
     let id = ClauseId {
         at: parts.clauses.len(),
     };
-    parts.index.add(alloc, key, id)?;
+    let rank = parts.index.add(alloc, key, id)?;
+    parts.ranks.push(rank)?;
     parts.clauses.push(view)?;
     Ok(())
 }

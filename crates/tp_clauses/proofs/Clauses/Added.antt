@@ -1,9 +1,9 @@
 -- One clause more behind the others.
-use Rattle.std.proofs.Common.{◌≡◌, ℕ, zero, suc, ◌+◌, ◌<◌, nat_eq, Bool, true, false, ◌&&◌, List, [], ◌∷◌, ◌++◌, length, map, slice_get, Option, Some, None, option_map, IfSome, refl, sym, ap, subst, ◌∙◌, arith, length-append, if◌then◌else◌, Result, Ok, Err, IfOk, OnOk}
+use Rattle.std.proofs.Common.{◌≡◌, ℕ, zero, suc, ◌+◌, ◌<◌, nat_eq, Bool, true, false, ◌&&◌, List, [], ◌∷◌, ◌++◌, length, map, slice_get, Option, Some, None, option_map, IfSome, refl, sym, ap, subst, ◌∙◌, arith, length-append, if◌then◌else◌, Result, Ok, Err, IfOk, OnOk, Vec, Global}
 use Rattle.std.specs.List.{All}
 use Rattle.std.proofs.lemmas.Bool.{eqb-true, eqb-false}
-use Rattle.std.proofs.lemmas.List.{map-append, length-map}
-use Rattle.std.proofs.lemmas.List.Elements.{All-head, All-tail, All-push, All-weaker}
+use Rattle.std.proofs.lemmas.List.{append-nil, map-append, length-map}
+use Rattle.std.proofs.lemmas.List.Elements.{All-nil, All-head, All-tail, All-push, All-weaker}
 use Rattle.tp_terms.specs.declared.cells.Cell.{Cell}
 use Rattle.tp_terms.specs.declared.cells.Cell.TheVariants as cell
 use Rattle.tp_terms.specs.declared.cells.Ref.{Ref}
@@ -13,10 +13,13 @@ use Rattle.tp_terms.specs.Shown.{shows, AreBuilt, AreNamed}
 use Rattle.tp_terms.proofs.Places.Shown.{shows-append}
 use Rattle.tp_terms.proofs.Naming.Tables.{slice_get-append}
 use Rattle.tp_clauses.specs.Contents.{ViewFits, IsHead, AreBelow, clause_of, clause_by, base_of, is_of, is_of_by, places_from}
+use Rattle.tp_parse.specs.Ops.{table_of}
+use Rattle.tp_parse.specs.Table.{start_table}
 use Rattle.tp_clauses.specs.Indexed.{ids_in, same_key}
+use Rattle.tp_clauses.specs.Ranks.{AreRanks, is_clause_of, is_view_of}
 use Rattle.tp_clauses.specs.Kinds.{key_of}
 use Rattle.tp_clauses.specs.Moved.{moved, moved_view, place_on}
-use Rattle.tp_clauses.specs.Parts.{IsParts, AddsClause, Longer, contents_of}
+use Rattle.tp_clauses.specs.Parts.{IsParts, IsEmpty, AddsClause, Longer, contents_of}
 use Rattle.tp_clauses.specs.Bodies.{TellsBody}
 use Rattle.tp_clauses.specs.declared.index.Index.{Index}
 use Rattle.tp_store.specs.Contents.{Contents, AddsCells, IsStore, chained, seen}
@@ -31,6 +34,8 @@ use Rattle.tp_clauses.specs.declared.base.ClauseView.{ClauseView}
 use Rattle.tp_clauses.specs.declared.kind.Key.{Key}
 use Rattle.tp_clauses.specs.declared.parts.Parts.{Parts}
 use Rattle.tp_clauses.proofs.Clauses.Moved.{shows-moved}
+use Rattle.tp_clauses.proofs.Clauses.Places.{one_key}
+use Rattle.tp_clauses.proofs.Clauses.Ranks.{at_end, no_ranks, ranks_same, ranks_added}
 
 -- ---- cells
 
@@ -121,7 +126,14 @@ places_longer name arity cs ds at (v ∷ vs) h =
     ap (λ b. if b then id_at at ∷ places_from name arity (cs ++ ds) (suc at) vs else places_from name arity (cs ++ ds) (suc at) vs) (is_of-longer name arity cs ds v (All-head (ViewFits cs) v vs h))
     ∙ ap (λ l. if is_of name arity cs v then id_at at ∷ l else l) rest
 
-places_push : (name : AtomId) (arity : ℕ) (cs : List Cell) (at : ℕ) (vs : List ClauseView) (v : ClauseView) → places_from name arity cs at (vs ++ v ∷ []) ≡ (if is_of name arity cs v then places_from name arity cs at vs ++ id_at (at + length vs) ∷ [] else places_from name arity cs at vs)
+-- the name and the number of arguments of a clause stay the same
+view_longer : (name : AtomId) (arity : ℕ) (cs ds : List Cell) (vs : List ClauseView) → All (ViewFits cs) vs → (at : ℕ) → is_view_of name arity (cs ++ ds) (slice_get vs at) ≡ is_view_of name arity cs (slice_get vs at)
+view_longer name arity cs ds [] h at = refl
+view_longer name arity cs ds (v ∷ vs) h zero = is_of-longer name arity cs ds v (All-head (ViewFits cs) v vs h)
+view_longer name arity cs ds (v ∷ vs) h (suc at) = view_longer name arity cs ds vs (All-tail (ViewFits cs) v vs h) at
+
+-- the places with one clause more
+pub places_push : (name : AtomId) (arity : ℕ) (cs : List Cell) (at : ℕ) (vs : List ClauseView) (v : ClauseView) → places_from name arity cs at (vs ++ v ∷ []) ≡ (if is_of name arity cs v then places_from name arity cs at vs ++ id_at (at + length vs) ∷ [] else places_from name arity cs at vs)
 places_push name arity cs at [] v = ap (λ n. if is_of name arity cs v then id_at n ∷ [] else []) (let e : at ≡ at + 0 = omega arith in e)
 places_push name arity cs at (w ∷ vs) v = go (is_of name arity cs w) (is_of name arity cs v) (places_push name arity cs (suc at) vs v)
   where
@@ -168,21 +180,46 @@ key_of-moved by (Some (cell.Comp f first k)) = refl
 pub key_behind : (cs ds : List Cell) (at : ℕ) → key_of (slice_get (cs ++ map (moved (length cs)) ds) (at + length cs)) ≡ key_of (slice_get ds at)
 key_behind cs ds at = ap key_of (slice_get-behind cs (moved (length cs)) ds at) ∙ key_of-moved (length cs) (slice_get ds at)
 
+-- ---- no clause
+
+-- the parts of no clause
+pub nothing : (p : Parts) → p.store.cells ≡ [] → p.store.pairs ≡ [] → p.clauses.items ≡ [] → p.ranks.items ≡ [] → ((k : Key) → ids_in same_key p.index k ≡ []) → table_of p.ops ≡ start_table → IsEmpty p
+nothing p cells pairs clauses ranks index ops = record {
+  parts = record {
+    base = record {
+      built = subst (λ (l : List Cell). AreBuilt l) (sym cells) (λ at c e. absurd (cc));
+      clauses = subst (λ (l : List ClauseView). All (ViewFits p.store.cells) l) (sym clauses) (All-nil (ViewFits p.store.cells));
+    };
+    index = λ name arity. index (record { name = name; arity = arity }) ∙ sym (ap (places_from name arity p.store.cells 0) clauses);
+    ranks = subst (λ (l : List ℕ). AreRanks (contents_of p) l) (sym ranks) (no_ranks (contents_of p) clauses);
+    unbound = pairs;
+  };
+  cells = cells;
+  clauses = clauses;
+  ops = ops;
+}
+
 -- ---- further cells
 
-pub parts_longer : (old new : Parts) (more : List Cell) → IsParts old → new.store.cells ≡ old.store.cells ++ more → new.clauses.items ≡ old.clauses.items → new.index ≡ old.index → new.ops ≡ old.ops → new.store.pairs ≡ old.store.pairs → AreBuilt new.store.cells → Longer old new more
-parts_longer old new more ok cells clauses same_index ops pairs built =
+pub parts_longer : (old new : Parts) (more : List Cell) → IsParts old → new.store.cells ≡ old.store.cells ++ more → new.clauses.items ≡ old.clauses.items → new.index ≡ old.index → new.ranks ≡ old.ranks → new.ops ≡ old.ops → new.store.pairs ≡ old.store.pairs → AreBuilt new.store.cells → Longer old new more
+parts_longer old new more ok cells clauses same_index same_ranks ops pairs built =
     let cs = old.store.cells in
     let vs = old.clauses.items in
     let fit : All (ViewFits cs) vs = (ok.base).clauses in
     let longer : All (ViewFits (cs ++ more)) vs = All-weaker (ViewFits cs) (ViewFits (cs ++ more)) (λ x. fits_longer cs more x) vs fit in
+    let same_places : (name : AtomId) (arity : ℕ) → places_from name arity new.store.cells 0 new.clauses.items ≡ places_from name arity (cs ++ more) 0 vs =
+    λ name arity. ap (λ l. places_from name arity new.store.cells 0 l) clauses ∙ ap (λ l. places_from name arity l 0 vs) cells in
     record {
       parts = record {
         base = record { built = built; clauses = subst (λ (l : List ClauseView). All (ViewFits new.store.cells) l) (sym clauses) (subst (λ (l : List Cell). All (ViewFits l) vs) (sym cells) longer) };
         index = λ name arity.
-            ap (λ (i : Index). ids_in i (record { name = name; arity = arity })) same_index ∙ ok.index name arity
+            ap (λ (i : Index Key). ids_in same_key i (record { name = name; arity = arity })) same_index ∙ ok.index name arity
             ∙ sym (places_longer name arity cs more 0 vs fit)
-            ∙ ap (λ l. places_from name arity l 0 vs) (sym cells) ∙ ap (λ l. places_from name arity new.store.cells 0 l) (sym clauses);
+            ∙ sym (same_places name arity);
+        ranks = subst (λ (l : Vec ℕ Global). AreRanks (contents_of new) l.items) (sym same_ranks)
+            (ranks_same (contents_of old) (contents_of new) old.ranks.items (ap length clauses) (λ name arity. same_places name arity ∙ places_longer name arity cs more 0 vs fit)
+            (λ name arity id. ap (λ l. is_view_of name arity l (slice_get new.clauses.items id.at)) cells ∙ ap (λ l. is_view_of name arity (cs ++ more) (slice_get l id.at)) clauses ∙ view_longer name arity cs more vs fit id.at)
+            ok.ranks);
         unbound = pairs ∙ ok.unbound;
       };
       cells = cells;
@@ -199,16 +236,37 @@ longer_base old new more ok l names =
 
 -- ---- one clause more
 
+-- some places with one more, or the same
+more_places : (b : Bool) (ids : List ClauseId) (id : ClauseId) (new : List ClauseId) → new ≡ (if b then ids ++ id ∷ [] else ids) → (more : List ClauseId) × (new ≡ ids ++ more)
+more_places true ids id new e = (id ∷ [], e)
+more_places false ids id new e = ([], e ∙ sym (append-nil ids))
+
+-- the last clause's rank
+last_rank : (cs : List Cell) (vs : List ClauseView) (v : ClauseView) (key : Key) → key_of (slice_get cs v.head.at) ≡ Some key → (name : AtomId) (arity rank : ℕ) (ids : Key → List ClauseId) → ids (record { name = name; arity = arity }) ≡ places_from name arity cs 0 vs → rank ≡ length (ids key)
+    → (new : List ClauseId) → new ≡ (if is_of name arity cs v then places_from name arity cs 0 vs ++ id_at (length vs) ∷ [] else places_from name arity cs 0 vs)
+    → is_view_of name arity cs (slice_get (vs ++ v ∷ []) (length vs)) ≡ true
+    → (rank ≡ length (places_from name arity cs 0 vs)) × (new ≡ places_from name arity cs 0 vs ++ id_at (length vs) ∷ [])
+last_rank cs vs v key is name arity rank ids old counted new now of =
+    let here : is_of name arity cs v ≡ true = sym (ap (is_view_of name arity cs) (at_end vs v)) ∙ of in
+    let one : key ≡ (let k : Key = record { name = name; arity = arity } in k) = one_key key (record { name = name; arity = arity }) (sym (key_is (slice_get cs v.head.at) key name arity is) ∙ here) in
+    (counted ∙ ap (λ k. length (ids k)) one ∙ ap length old, now ∙ ap (λ b. if b then places_from name arity cs 0 vs ++ id_at (length vs) ∷ [] else places_from name arity cs 0 vs) here)
+
 pub clause_added : (old new : Parts) (v : ClauseView) (key : Key) → IsParts old → ViewFits old.store.cells v → key_of (slice_get old.store.cells v.head.at) ≡ Some key
     → new.store ≡ old.store
     → new.clauses.items ≡ old.clauses.items ++ v ∷ []
-    → ((k : Key) → ids_in new.index k ≡ (if same_key key k then ids_in old.index k ++ id_at (length old.clauses.items) ∷ [] else ids_in old.index k))
+    → ((k : Key) → ids_in same_key new.index k ≡ (if same_key key k then ids_in same_key old.index k ++ id_at (length old.clauses.items) ∷ [] else ids_in same_key old.index k))
+    → (rank : ℕ) → rank ≡ length (ids_in same_key old.index key) → new.ranks.items ≡ old.ranks.items ++ rank ∷ []
     → new.ops ≡ old.ops → AddsClause old new v
-clause_added old new v key ok fits is store pushed indexed ops =
+clause_added old new v key ok fits is store pushed indexed rank counted ranked ops =
     let cs = old.store.cells in
     let vs = old.clauses.items in
     let cells : new.store.cells ≡ cs = ap (λ (s : Contents). s.cells) store in
     let fit : All (ViewFits cs) (vs ++ v ∷ []) = All-push (ViewFits cs) vs v (ok.base).clauses fits in
+    let now_places : (name : AtomId) (arity : ℕ) → places_from name arity new.store.cells 0 new.clauses.items ≡ (if is_of name arity cs v then places_from name arity cs 0 vs ++ id_at (length vs) ∷ [] else places_from name arity cs 0 vs) =
+    λ name arity. ap (λ l. places_from name arity new.store.cells 0 l) pushed ∙ ap (λ l. places_from name arity l 0 (vs ++ v ∷ [])) cells ∙ places_push name arity cs 0 vs v
+    ∙ ap (λ n. if is_of name arity cs v then places_from name arity cs 0 vs ++ id_at n ∷ [] else places_from name arity cs 0 vs) (let z : 0 + length vs ≡ length vs = omega arith in z) in
+    let now_view : (name : AtomId) (arity : ℕ) (id : ClauseId) → is_clause_of name arity (contents_of new) id ≡ is_view_of name arity cs (slice_get (vs ++ v ∷ []) id.at) =
+    λ name arity id. ap (λ l. is_view_of name arity l (slice_get new.clauses.items id.at)) cells ∙ ap (λ l. is_view_of name arity cs (slice_get l id.at)) pushed in
     record {
       parts = record {
         base = record {
@@ -219,10 +277,12 @@ clause_added old new v key ok fits is store pushed indexed ops =
             indexed (record { name = name; arity = arity })
             ∙ ap (λ l. if same_key key (record { name = name; arity = arity }) then l ++ id_at (length vs) ∷ [] else l) (ok.index name arity)
             ∙ ap (λ b. if b then places_from name arity cs 0 vs ++ id_at (length vs) ∷ [] else places_from name arity cs 0 vs) (sym (key_is (slice_get cs v.head.at) key name arity is))
-            ∙ ap (λ n. if is_of name arity cs v then places_from name arity cs 0 vs ++ id_at n ∷ [] else places_from name arity cs 0 vs) (let z : length vs ≡ 0 + length vs = omega arith in z)
-            ∙ sym (places_push name arity cs 0 vs v)
-            ∙ ap (λ l. places_from name arity l 0 (vs ++ v ∷ [])) (sym cells)
-            ∙ ap (λ l. places_from name arity new.store.cells 0 l) (sym pushed);
+            ∙ sym (now_places name arity);
+        ranks = subst (λ (l : List ℕ). AreRanks (contents_of new) l) (sym ranked)
+            (ranks_added (contents_of old) (contents_of new) old.ranks.items rank v ok.ranks pushed
+            (λ name arity of. last_rank cs vs v key is name arity rank (ids_in same_key old.index) (ok.index name arity) counted (places_from name arity new.store.cells 0 new.clauses.items) (now_places name arity) (sym (now_view name arity (id_at (length vs))) ∙ of))
+            (λ name arity. more_places (is_of name arity cs v) (places_from name arity cs 0 vs) (id_at (length vs)) (places_from name arity new.store.cells 0 new.clauses.items) (now_places name arity))
+            (λ name arity id l. now_view name arity id ∙ ap (is_view_of name arity cs) (slice_get-append vs (v ∷ []) id.at l)));
         unbound = ap (λ (s : Contents). s.pairs) store ∙ ok.unbound;
       };
       cells = cells;
@@ -241,13 +301,13 @@ seen_option : (names : List Name) (c : Contents) (o : Option Ref) → c.pairs �
 seen_option names c None e = refl
 seen_option names c (Some r) e = ap Some (seen_free names c r.at e)
 
-pub body_told : (old new : Parts) (place : Ref) (found : Option Ref) → IsParts old → AddsCells old.store new.store → IsStore new.store → new.clauses.items ≡ old.clauses.items → new.index ≡ old.index → new.ops ≡ old.ops
+pub body_told : (old new : Parts) (place : Ref) (found : Option Ref) → IsParts old → AddsCells old.store new.store → IsStore new.store → new.clauses.items ≡ old.clauses.items → new.index ≡ old.index → new.ranks ≡ old.ranks → new.ops ≡ old.ops
     → ((names : List Name) → IsTable names → AreNamed (length names) old.store.cells → option_map (λ (r : Ref). seen names new.store r.at) found ≡ body (seen names old.store place.at))
     → IfSome found (λ at. at.at < length new.store.cells)
     → ((n : ℕ) → CALL.at < n → AreNamed n old.store.cells → AreNamed n new.store.cells) → TellsBody old new place found
-body_told old new place found ok adds store clauses same_index ops shown within named = record {
+body_told old new place found ok adds store clauses same_index same_ranks ops shown within named = record {
   more = adds.more;
-  longer = parts_longer old new adds.more ok adds.cells clauses same_index ops adds.pairs store.built;
+  longer = parts_longer old new adds.more ok adds.cells clauses same_index same_ranks ops adds.pairs store.built;
   within = within;
   shown = λ names t h. record {
     named = named (length names) (call-within names t) h;
@@ -256,13 +316,13 @@ body_told old new place found ok adds store clauses same_index ops shown within 
 }
 
 -- what the calls answer that add cells
-pub longer_ok : {A E : Type 0} (r : Result A E) (old new : Parts) (more : List Cell) → IsParts old → OnOk r (new.store.cells ≡ old.store.cells ++ more) → new.clauses.items ≡ old.clauses.items → new.index ≡ old.index → new.ops ≡ old.ops → new.store.pairs ≡ old.store.pairs → OnOk r (AreBuilt new.store.cells) → OnOk r (Longer old new more)
-longer_ok (Ok x) old new more ok cells clauses same_index ops pairs built = parts_longer old new more ok cells clauses same_index ops pairs built
-longer_ok (Err e) old new more ok cells clauses same_index ops pairs built = tt
+pub longer_ok : {A E : Type 0} (r : Result A E) (old new : Parts) (more : List Cell) → IsParts old → OnOk r (new.store.cells ≡ old.store.cells ++ more) → new.clauses.items ≡ old.clauses.items → new.index ≡ old.index → new.ranks ≡ old.ranks → new.ops ≡ old.ops → new.store.pairs ≡ old.store.pairs → OnOk r (AreBuilt new.store.cells) → OnOk r (Longer old new more)
+longer_ok (Ok x) old new more ok cells clauses same_index same_ranks ops pairs built = parts_longer old new more ok cells clauses same_index same_ranks ops pairs built
+longer_ok (Err e) old new more ok cells clauses same_index same_ranks ops pairs built = tt
 
-pub body_ok : {E : Type 0} (r : Result (Option Ref) E) (old new : Parts) (place : Ref) → IsParts old → AddsCells old.store new.store → IsStore new.store → new.clauses.items ≡ old.clauses.items → new.index ≡ old.index → new.ops ≡ old.ops
+pub body_ok : {E : Type 0} (r : Result (Option Ref) E) (old new : Parts) (place : Ref) → IsParts old → AddsCells old.store new.store → IsStore new.store → new.clauses.items ≡ old.clauses.items → new.index ≡ old.index → new.ranks ≡ old.ranks → new.ops ≡ old.ops
     → IfOk r (λ found. (names : List Name) → IsTable names → AreNamed (length names) old.store.cells → option_map (λ (at : Ref). seen names new.store at.at) found ≡ body (seen names old.store place.at))
     → IfOk r (λ found. IfSome found (λ at. at.at < length new.store.cells))
     → OnOk r ((n : ℕ) → CALL.at < n → AreNamed n old.store.cells → AreNamed n new.store.cells) → IfOk r (TellsBody old new place)
-body_ok (Ok found) old new place ok adds store clauses same_index ops shown within named = body_told old new place found ok adds store clauses same_index ops shown within named
-body_ok (Err e) old new place ok adds store clauses same_index ops shown within named = tt
+body_ok (Ok found) old new place ok adds store clauses same_index same_ranks ops shown within named = body_told old new place found ok adds store clauses same_index same_ranks ops shown within named
+body_ok (Err e) old new place ok adds store clauses same_index same_ranks ops shown within named = tt

@@ -172,9 +172,13 @@ begun_err names text fault result u b e told = subst (λ (x : Result Parts LoadF
 pub fault_same : (A B : Type 0) (f g : LoadFault) → ◌≡◌ {A = Result A LoadFault} (Err f) (Err g) → ◌≡◌ {A = Result B LoadFault} (Err f) (Err g)
 fault_same A B f g e = let h : f ≡ g = cc in ap Err h
 
+-- the definition comes to the first read term, where the first token isn't refused
+pub first_asks : (text : List ℕ) → is_ok (next text 0) ≡ true → AsksMemory text
+first_asks text ok = record { number = 1; ops = start_table; at = 0; comes = Begin; few = omega (arith, most); token = ok }
+
 pub begun_memory : (text : List ℕ) (fault : LoadFault) → TellsBegin (Err fault) (next text 0) → ◌≡◌ {A = Result Parts LoadFault} (Err fault) (Err NoMemory) → AsksMemory text
 begun_memory text (Refused clause byte c) told e = absurd (cc)
-begun_memory text NoMemory told e = record { number = 1; ops = start_table; at = 0; comes = Begin; few = omega (arith, most); token = told }
+begun_memory text NoMemory told e = first_asks text told
 
 pub loading_memory : (names : List Name) (text : List ℕ) (at before : ℕ) (p : Parts) → IsLoading names text at before p → before < most_terms → is_ok (next text at) ≡ true → AsksMemory text
 loading_memory names text at before p h l ahead = record { number = before + 1; ops = table_of p.ops; at = at; comes = h.comes; few = omega arith; token = ahead }

@@ -2,12 +2,13 @@
 use Rattle.std.proofs.Common.{◌≡◌, ℕ, zero, suc, ◌+◌, ◌<◌, nat_eq, Bool, true, false, ◌&&◌, ◌||◌, codes, List, [], ◌∷◌, length, map, slice_get, Option, Some, None, option_map, IfSome, Result, Ok, Err, refl, sym, ap, subst, ◌∙◌, arith, if◌then◌else◌}
 use Rattle.std.specs.List.{All, AllByRecursion}
 use Rattle.std.specs.Str.{IsUtf8, is_utf8}
+use Rattle.std.specs.Result.{is_ok}
 use Rattle.std.specs.Str.Lossy.{utf8_valid_len}
 use Rattle.std.proofs.lemmas.Str.{IsUtf8-from_is_utf8, is_utf8-from_IsUtf8}
 use Rattle.tp_parse.specs.Ops.{table_of}
 use Rattle.tp_clauses.specs.Parts.{contents_of}
 use Rattle.tp_clauses.specs.Told.{Holds, TellsParts}
-use Rattle.tp_clauses.proofs.Loading.Text.{fault_same}
+use Rattle.tp_clauses.proofs.Loading.Text.{fault_same, first_asks}
 use Rattle.tp_clauses.specs.Loaded.{AsksMemory, HasBody, Has, Tells}
 use Rattle.tp_clauses.specs.declared.parts.Parts.{Parts}
 use Rattle.tp_clauses.specs.declared.fault.LoadFault.{LoadFault}
@@ -46,7 +47,8 @@ use Rattle.tp_clauses.proofs.Taking.Directives.{cell_at}
 
 -- ---- places
 
-count-args_at : (names : List Name) (cells : List Cell) (first n : ℕ) → count_of (args_at names cells first n) ≡ n
+-- so many places show so many arguments
+pub count-args_at : (names : List Name) (cells : List Cell) (first n : ℕ) → count_of (args_at names cells first n) ≡ n
 count-args_at names cells first zero = refl
 count-args_at names cells first (suc n) = ap (λ m. 1 + m) (count-args_at names cells (suc first) n) ∙ (let e : 1 + n ≡ suc n = omega arith in e)
 
@@ -248,6 +250,10 @@ fault_told names bytes text NoMemory e u h = tt
 -- want of memory for a text that is UTF-8
 pub memory_told : (A B : Type 0) (bytes text : List ℕ) (fault : LoadFault) → text ≡ bytes → IsUtf8 bytes → (◌≡◌ {A = Result A LoadFault} (Err fault) (Err NoMemory) → AsksMemory text) → ◌≡◌ {A = Result B LoadFault} (Err fault) (Err NoMemory) → (is_utf8 bytes ≡ true) × AsksMemory bytes
 memory_told A B bytes text fault e u asks w = (is_utf8-from_IsUtf8 bytes u, subst AsksMemory e (asks (fault_same B A fault NoMemory w)))
+
+-- want of memory for the lists by first argument
+pub lists_memory : (bytes text : List ℕ) → text ≡ bytes → IsUtf8 bytes → is_ok (next text 0) ≡ true → (is_utf8 bytes ≡ true) × AsksMemory bytes
+lists_memory bytes text e u ok = (is_utf8-from_IsUtf8 bytes u, subst AsksMemory e (first_asks text ok))
 
 -- the same of the clauses of a base that has a model
 pub bodies_told : (names : List Name) (text : List ℕ) (c : Contents) → (m : Model) → model text ≡ Ok m → Has names c m → AllByRecursion HasBody (base_of names c)

@@ -332,12 +332,12 @@ rule_integer names cells head term vars key h built lh free n e =
 
 -- the table alone was changed
 pub directive_taken : {A : Type 0} (names : List Name) (old : Parts) (ops : Ops) (result : Result A TermFault) (r : Option Table) (k : Kind) → IsParts old → AreNamed (length names) old.store.cells → k ≡ Directive r → TellsDirective (table_of ops) result r
-    → TellsTerm names old (record { store = old.store; clauses = old.clauses; index = old.index; ops = ops }) result (outcome (table_of old.ops) k)
+    → TellsTerm names old (record { store = old.store; clauses = old.clauses; ranks = old.ranks; index = old.index; ops = ops }) result (outcome (table_of old.ops) k)
 directive_taken names old ops (Ok done) r k ok n e t = record {
   more = [];
   adds = ap (outcome (table_of old.ops)) (e ∙ ap Directive t);
   clauses = sym (append-nil (base_of names (contents_of old)));
-  parts = record { base = record { built = (ok.base).built; clauses = (ok.base).clauses }; index = ok.index; unbound = ok.unbound };
+  parts = record { base = record { built = (ok.base).built; clauses = (ok.base).clauses }; index = ok.index; ranks = record { count = ok.ranks.count; each = ok.ranks.each }; unbound = ok.unbound };
   named = n;
 }
 directive_taken names old ops (Err (Refused cause.Directive)) r k ok n e t = ap (outcome (table_of old.ops)) (e ∙ ap Directive t)

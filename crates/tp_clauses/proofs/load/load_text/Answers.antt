@@ -7,7 +7,7 @@ use Rattle.tp_clauses.specs.declared.fault.LoadFault.TheVariants.{NoMemory}
 use Rattle.tp_clauses.proofs.load.load_text.Goals as goal
 
 pub terms-init : goal.terms-init
-terms-init c = record { loading = loading_start c.args.atoms.now c.args.text.now c.in-Ok.parts c.in-Ok.ensures (IsCharBoundary-start c.args.text.now c.utf8.text); grows = Grows-same c.args.atoms.now }
+terms-init c = record { loading = loading_start c.args.atoms.now c.args.text.now c.in-Ok.parts c.in-Ok.ensures.told (IsCharBoundary-start c.args.text.now c.utf8.text); grows = Grows-same c.args.atoms.now }
 
 pub terms-preserved : goal.terms-preserved
 terms-preserved c = record {
@@ -34,10 +34,10 @@ pub returns-in-Err-end_of-clause-model : goal.returns-in-Err-end_of-clause-model
 returns-in-Err-end_of-clause-model c = ended_err c.terms.atoms c.args.text.now c.terms.at c.terms.before c.terms.parts c.terms.invariant.loading (omega (arith, c.terms-test.false, c.terms.auto.before-end, most)) (Unit {0}) 1000001 c.in-Err-end_of.fault (Err c.in-Err-end_of.fault) (omega (arith, most)) refl c.in-Err-end_of.ensures
 
 pub returns-in-Err-clause-model : goal.returns-in-Err-clause-model
-returns-in-Err-clause-model c = begun_err c.args.atoms.now c.args.text.now c.in-Err.fault (Err c.in-Err.fault) c.utf8.text (IsCharBoundary-start c.args.text.now c.utf8.text) refl c.in-Err.ensures
+returns-in-Err-clause-model c = begun_err c.args.atoms.now c.args.text.now c.in-Err.fault (Err c.in-Err.fault) c.utf8.text (IsCharBoundary-start c.args.text.now c.utf8.text) refl c.in-Err.ensures.told
 
 pub returns-in-Err-clause-memory : goal.returns-in-Err-clause-memory
-returns-in-Err-clause-memory c e = begun_memory c.args.text.now c.in-Err.fault c.in-Err.ensures e
+returns-in-Err-clause-memory c e = begun_memory c.args.text.now c.in-Err.fault c.in-Err.ensures.told e
 
 pub returns-in-Err-read_next-clause-memory : goal.returns-in-Err-read_next-clause-memory
 returns-in-Err-read_next-clause-memory c e =
