@@ -4,5 +4,6 @@ pub mod Bodies
 pub mod Arguments
 pub mod Substitution
 pub mod Trail
+pub mod HeadsMeet
 pub mod Comparison
 pub mod Standing

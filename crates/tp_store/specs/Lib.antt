@@ -4,6 +4,7 @@ pub mod Work
 pub mod Copy
 pub mod Bodies
 pub mod Logged
+pub mod Meeting
 pub mod Joined
 pub mod Ordered
 pub mod Renamed

@@ -50,6 +50,13 @@ FindsHead old new goal from head base found =
     (renamed base (shows names from head.at))
     ≡ (if found then Some (subst_of names new) else None)
 
+-- whether those two terms have a unifier
+abbrev pub HeadIsUnifiable : Contents → Ref → List Cell → Ref → ℕ → Bool → Type 0
+HeadIsUnifiable old goal from head base found =
+    (names : List Name) → Names names old.cells → AreNamed (length names) from →
+    found ≡ is_some (mgu (subst_of names old) (shows names old.cells goal.at)
+    (renamed base (shows names from head.at)))
+
 -- the places of the old cells show the same terms in the new ones
 abbrev pub KeepsTerms : List Cell → List Cell → Type 0
 KeepsTerms old new = (names : List Name) (at : ℕ) → at < length old →

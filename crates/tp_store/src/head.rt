@@ -1,15 +1,29 @@
-//! Unification with a term of other cells.
+//! Unification with a term of other cells, with a log: each binding has its entry.
 
-ghost use Rattle.std.specs.Prelude.{◌≡◌, ◌≢◌, ◌<◌, length, true, Ok, OnOk, IfOk};
+ghost use Rattle.std.specs.Prelude.{◌≡◌, ◌≢◌, ◌<◌, ◌≤◌, length, take, reverse, true, Ok, OnOk, IfOk};
+ghost use Rattle.tp_store.specs.Contents.{CanGoBack, cut_to_mark};
 ghost use Rattle.tp_store.specs.Chain.{IsChains, contents_of};
 ghost use Rattle.tp_store.specs.Copy.{IsClaimed, NamesBoth};
-ghost use Rattle.tp_store.specs.Logged.{FindsHead, LogsHead};
+ghost use Rattle.tp_store.specs.Logged.{FindsHead, HeadIsUnifiable, LogsHead};
+ghost use Rattle.tp_store.specs.Meeting.{with_oldest};
 
 use crate::chains::Chains;
-use crate::copy::instance;
-use crate::logged::unify_logged;
+use crate::logged::log_bindings;
+use crate::meet::meet_all;
 use tp_log::Log;
 use tp_terms::{Cells, NoMemory, Ref, StoreMark};
+
+/// Takes bindings back, down to so many, and then cells and numbers to a mark.
+fn take_back(chains: &mut Chains, kept: usize, mark: StoreMark)
+    requires chains { IsChains chains.old }
+    requires kept { kept ≤ length chains.old.pairs.items }
+    requires can { CanGoBack (with_oldest kept chains.old) mark }
+    ensures chains { IsChains chains.new }
+    ensures value { contents_of chains.new ≡ cut_to_mark (with_oldest kept chains.old) mark }
+{
+    chains.undo_to(kept);
+    chains.back_to(mark);
+}
 
 /// Makes the term of a place equal to that of a place of other cells, each variable of this one
 /// numbered on from the base, and logs each binding. Where that can't be, or memory is refused,
@@ -36,21 +50,55 @@ pub fn unify_head(
     ensures named { OnOk result
         (NamesBoth from.now.items chains.old.cells.items chains.new.cells.items) }
 {
-    let alloc = *chains.pairs.allocator();
+    let kept = chains.pairs.len();
     let mark = StoreMark {
         cells: chains.cells.len(),
         vars: chains.bound.len() as u64,
     };
-    let at = instance(chains, alloc, from, head, base)?;
-    match unify_logged(chains, alloc, goal, at, log) {
-        Ok(true) => Ok(true),
+    match meet_all(chains, from, base, goal, head) {
+        Ok(true) => {}
         Ok(false) => {
-            chains.back_to(mark);
-            Ok(false)
+            take_back(chains, kept, mark);
+            return Ok(false);
         }
         Err(refused) => {
-            chains.back_to(mark);
+            take_back(chains, kept, mark);
+            return Err(refused);
+        }
+    }
+    match log_bindings(&chains.pairs, kept, log) {
+        Ok(()) => Ok(true),
+        Err(refused) => {
+            take_back(chains, kept, mark);
             Err(refused)
         }
     }
+}
+
+/// Whether the term of a place can be made equal to that of a place of other cells, each variable
+/// of this one numbered on from the base. Nothing is bound or added.
+pub fn head_unifiable(
+    chains: &mut Chains,
+    goal: Ref,
+    from: &Cells,
+    head: Ref,
+    base: u64,
+) -> Result<bool, NoMemory>
+    requires chains { IsChains chains.old }
+    requires goal { goal.at < length chains.old.cells.items }
+    requires head { head.at < length from.now.items }
+    requires claimed { IsClaimed from.now.items head.at base (length chains.old.bound.items) }
+    ensures chains { IsChains chains.new }
+    ensures found { IfOk result
+        (HeadIsUnifiable (contents_of chains.old) goal from.now.items head base) }
+    ensures value { contents_of chains.new ≡ contents_of chains.old }
+{
+    let kept = chains.pairs.len();
+    let mark = StoreMark {
+        cells: chains.cells.len(),
+        vars: chains.bound.len() as u64,
+    };
+    let answer = meet_all(chains, from, base, goal, head);
+    take_back(chains, kept, mark);
+    answer
 }

@@ -7,6 +7,7 @@ mod copy;
 mod head;
 mod join;
 mod logged;
+mod meet;
 mod order;
 mod pairs;
 mod rename;

@@ -32,7 +32,7 @@ fn push_bindings(pairs: &[(u64, Ref)], kept: usize, log: &mut Log) -> Result<(),
 }
 
 /// Adds the entries of the pairs from a place on, or none where memory is refused.
-fn log_bindings(pairs: &[(u64, Ref)], kept: usize, log: &mut Log) -> Result<(), NoMemory>
+pub fn log_bindings(pairs: &[(u64, Ref)], kept: usize, log: &mut Log) -> Result<(), NoMemory>
     requires { kept ≤ length pairs.now }
     ensures logged { OnOk result
         (log.new ≡ log.old ++ map (λ p. Entry.Bind p.0) (drop kept pairs.now)) }

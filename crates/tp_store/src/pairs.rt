@@ -141,7 +141,7 @@ fn compare_variable(number: u64, place: Ref, other: End) -> Pair
 }
 
 /// Whether two cells are the same integer or the same atom.
-fn same_constant(left: Cell, right: Cell) -> bool
+pub fn same_constant(left: Cell, right: Cell) -> bool
     ensures { result ≡ constants_eq left right }
 {
     match (left, right) {

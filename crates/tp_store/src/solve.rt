@@ -14,7 +14,7 @@ use std::alloc::Global;
 use tp_terms::{NoMemory, Ref};
 
 /// Binds until no pair is left. What it binds stays, whatever it answers.
-fn solve(chains: &mut Chains, alloc: Global, left: Ref, right: Ref) -> Result<bool, NoMemory>
+pub fn solve(chains: &mut Chains, alloc: Global, left: Ref, right: Ref) -> Result<bool, NoMemory>
     requires chains { IsChains chains.old }
     requires left { left.at < length chains.old.cells.items }
     requires right { right.at < length chains.old.cells.items }

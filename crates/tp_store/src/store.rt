@@ -10,7 +10,7 @@ ghost use Rattle.tp_meaning.specs.Clauses.{renamed};
 ghost use Rattle.tp_meaning.specs.Subst.{mgu};
 ghost use Rattle.tp_store.specs.Contents.{AddsCells, IsStore, Names, IsNumbered, IsUnbound, CanGoBack, FindsUnifier, IsUnifiable, Keeps, cut_to_mark, with_cell, with_vars, seen, seen_cell, subst_of};
 ghost use Rattle.tp_store.specs.Copy.{IsClaimed, IsLast, NamesBoth, ShowsCopy};
-ghost use Rattle.tp_store.specs.Logged.{FindsHead, IsBound, KeepsTerms, Logs, LogsHead, unbound};
+ghost use Rattle.tp_store.specs.Logged.{FindsHead, HeadIsUnifiable, IsBound, KeepsTerms, Logs, LogsHead, unbound};
 ghost use Rattle.tp_store.specs.Joined.{HasRoom, IsCallable, KeepsAtoms, ShowsMore};
 ghost use Rattle.tp_store.specs.Ordered.{IsOrder};
 ghost use Rattle.tp_store.specs.Renamed.{AddsTerms, Copies};
@@ -19,7 +19,7 @@ ghost use Rattle.tp_store.specs.Bodies.{AsksMemory, FindsBody, IsWithin, KeepsNa
 use crate::body::body_of;
 use crate::chains::Chains;
 use crate::copy::instance;
-use crate::head::unify_head;
+use crate::head::{head_unifiable, unify_head};
 use crate::join::goal_with;
 use crate::logged::unify_logged;
 use crate::order::compare;
@@ -220,6 +220,27 @@ impl Store {
         ensures store { IsStore self.new }
     {
         unify_head(&mut self.chains, goal, from, head, base, log)
+    }
+
+    /// What `unify_head` would answer. Nothing is bound, added or logged. The condition `claimed`
+    /// is that the numbers of the variables were claimed.
+    ///
+    /// Answers `NoMemory` where the memory for it isn't had.
+    pub fn head_unifiable(
+        &mut self,
+        goal: Ref,
+        from: &Cells,
+        head: Ref,
+        base: u64,
+    ) -> Result<bool, NoMemory>
+        requires goal { goal.at < length self.old.cells }
+        requires head { head.at < length from.now.items }
+        requires claimed { IsClaimed from.now.items head.at base self.old.vars }
+        ensures found { IfOk result (HeadIsUnifiable self.old goal from.now.items head base) }
+        ensures unchanged { self.new ≡ self.old }
+        ensures store { IsStore self.new }
+    {
+        head_unifiable(&mut self.chains, goal, from, head, base)
     }
 
     /// Takes the newest binding of a bound variable back; all else stays. Takes no memory. The

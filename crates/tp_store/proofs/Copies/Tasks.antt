@@ -15,7 +15,7 @@ use Rattle.tp_meaning.proofs.Unification.Complete.{has_size}
 use Rattle.tp_store.specs.declared.copy.Task.{Task}
 use Rattle.tp_store.specs.declared.copy.Task.TheVariants.{Copy, Build}
 use Rattle.tp_store.specs.Contents.{Contents, AddsCells, IsNumbered, with_cell}
-use Rattle.tp_store.specs.Copy.{Copied, IsCopiedAs, IsLast, args_as, copied_from, copies, made_by, AreTasks, AreReady, looked_at}
+use Rattle.tp_store.specs.Copy.{Copied, IsCopiedAs, IsLast, args_as, copies, made_by, AreTasks, AreReady, looked_at}
 use Rattle.tp_store.proofs.Copies.Rows.{AreReady-later, newest_first, nothing_left}
 
 module _ (t : Copied) where
@@ -189,10 +189,6 @@ module _ (from : List Cell) (t : Copied) (root : ℕ) (old now : Contents) (at :
             let r = h.named n f k in
             (r.0, r.1, AreTasksNamed-copies n first.at count (Build name count ∷ tasks) (is.named n f, r.2));
       }
-
-  -- the number of a variable that is copied
-  pub look_claimed : (x : Cell) → IsCopiedAs from t at.at x → (v : ℕ) → x ≡ cell.Var v → v < now.vars
-  look_claimed x is v e = subst (Below now.vars) (is.same [] ∙ ap (copied_from t []) e) h.can.1
 
   pub look_smaller : (x : Cell) → IsCopiedAs from t at.at x → tasks_size t (looked_at x tasks made).0 < tasks_size t (Copy at ∷ tasks)
   look_smaller (cell.Var v) is = omega (arith, has_size (t [] at.at))

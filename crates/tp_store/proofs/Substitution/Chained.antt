@@ -99,7 +99,7 @@ module _ (names : List Name) (cells : List Cell) (vars : ℕ) where
 -- ---- one step along a chain
 
 -- the place that the table has for a variable is that of its binding
-table_at : (bound : List (Option Ref)) (pairs : Bindings) (v : ℕ) (o : Option Ref) → IsTable bound pairs → v < length bound → o ≡ get_or bound v o → bound_in pairs v ≡ o
+pub table_at : (bound : List (Option Ref)) (pairs : Bindings) (v : ℕ) (o : Option Ref) → IsTable bound pairs → v < length bound → o ≡ get_or bound v o → bound_in pairs v ≡ o
 table_at bound pairs v o t lt e = sym (t.kept v) ∙ sym (get_or_default bound v o None lt) ∙ sym e
 
 leads_on : (c : Contents) (v : ℕ) (next : Ref) → IsStore c → bound_in c.pairs v ≡ Some next → LeadsOn c (cell.Var v) next

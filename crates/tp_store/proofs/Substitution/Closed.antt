@@ -82,10 +82,6 @@ closed-take n cells vars pairs mark chain h = record {
     go [] k b = tt
     go (p ∷ ps) k b = (λ lt. step p.1 (k.0).stands (b.0 lt), go ps k.1 b.1)
 
--- a further binding of a later variable, or to a place before the mark
-pub closed-pair : (cells : List Cell) (pairs : Bindings) (mark : StoreMark) (v : ℕ) (place : Ref) → IsClosed cells pairs mark → (v < mark.vars → IsBefore mark cells place) → IsClosed cells ((v, place) ∷ pairs) mark
-closed-pair cells pairs mark v place h b = record { variables = h.variables; bound = (b, h.bound) }
-
 -- the binding of a variable taken back
 pub closed-without : (v : ℕ) (cells : List Cell) (pairs : Bindings) (mark : StoreMark) → IsClosed cells pairs mark → IsClosed cells (without_pair v pairs) mark
 closed-without v cells pairs mark h = record { variables = h.variables; bound = go pairs h.bound }

@@ -30,6 +30,13 @@ for_one_same f v t y h = replaced-replaced f (for_one v t) y ∙ replaced-same (
         go true e = sym h ∙ ap f (eqb-true v w e)
         go false e = refl
 
+-- where no pair is left, the map is most general
+pub solved : (s0 s : Subst) (a b : Term) → IsSubst s → ((f : ℕ → Term) → Extends s f → Extends s0 f × (replaced f a ≡ replaced f b)) → ((f : ℕ → Term) → Extends s0 f → replaced f a ≡ replaced f b → Extends s f)
+    → ((v : ℕ) → bound_to s v ≡ None → bound_to s0 v ≡ None) → ((y v : ℕ) → bound_to s0 y ≡ None → value_at s y ≡ Var v → v ≤ y) → IsGeneral s0 a b s
+solved s0 s a b id is only binds least =
+    let k = is (value_at s) (record { at = (idem_over s id.idem).at }) in
+    record { over = k.0; same = k.1; general = only; binds = binds; least = least }
+
 module _ (c : Contents) (v : ℕ) (place : Ref) (ok : IsStore c) (may : MayBind c v place) where
   seen_end : (names : List Name) → seen names c place.at ≡ seen_cell names c may.cell
   seen_end names = ap (apply (subst_of names c)) (end_shows names c (record { place = place; cell = may.cell }) may.end)
@@ -149,6 +156,17 @@ module _ (c : Contents) (v : ℕ) (place : Ref) (ok : IsStore c) (may : MayBind 
         go (Atom a) is e = absurd (let k = e in cc)
         go (Comp d ts) is e = absurd (let k = e in cc)
 
+    -- the new map solves the equation of the variable and the place
+    pub bound_general : occurs v (seen names c place.at) ≡ false → IsGeneral (subst_of names c) (Var v) (shows names c.cells place.at) (subst_of names (with_pair c v place))
+    unfolding s t
+    bound_general out =
+        solved s (subst_of names (with_pair c v place)) (Var v) (shows names c.cells place.at)
+        (IsSubst-chained names c.cells c.vars ((v, place) ∷ c.pairs) (may_add names out, ok.chain names))
+        (λ f e. let old = now_extends f e in (old, now_solves f e ∙ sym (over_term f s (shows names c.cells place.at) (over_of s f old))))
+        (λ f e h. extends_now f e (h ∙ over_term f s (shows names c.cells place.at) (over_of s f e)))
+        bound_binds
+        (bound_least s (λ y w u e. let k : Var y ≡ Var w = sym (unbound y s u) ∙ e in let q : y ≡ w = cc in omega arith))
+
 -- a binding leaves one unbound variable less
 count-bind : (bound : List (Option Ref)) (v : ℕ) (place : Ref) → v < length bound → get_or bound v None ≡ None → unbound_count (set bound v (Some place)) < unbound_count bound
 count-bind [] v place lt e = absurd (omega arith)
@@ -168,13 +186,6 @@ AddsPairs-bind old mid new v place g e = record {
   cells = ap (λ (x : Contents). x.cells) e ∙ g.cells;
   vars = ap (λ (x : Contents). x.vars) e ∙ g.vars;
 }
-
--- where no pair is left, the map is most general
-pub solved : (s0 s : Subst) (a b : Term) → IsSubst s → ((f : ℕ → Term) → Extends s f → Extends s0 f × (replaced f a ≡ replaced f b)) → ((f : ℕ → Term) → Extends s0 f → replaced f a ≡ replaced f b → Extends s f)
-    → ((v : ℕ) → bound_to s v ≡ None → bound_to s0 v ≡ None) → ((y v : ℕ) → bound_to s0 y ≡ None → value_at s y ≡ Var v → v ≤ y) → IsGeneral s0 a b s
-solved s0 s a b id is only binds least =
-    let k = is (value_at s) (record { at = (idem_over s id.idem).at }) in
-    record { over = k.0; same = k.1; general = only; binds = binds; least = least }
 
 -- ---- what holds before each turn
 

@@ -105,10 +105,10 @@ Each-append f names cells (p ∷ ps) qs =
     let k = Each-append f names cells ps qs in
     (λ h. let r = k.0 h.1 in ((h.0, r.0), r.1), λ h. (h.0.0, k.1 (h.0.1, h.1)))
 
-row-head : {t u : Term} {ts us : Terms} → More t ts ≡ More u us → t ≡ u
+pub row-head : {t u : Term} {ts us : Terms} → More t ts ≡ More u us → t ≡ u
 row-head e = cc
 
-row-tail : {t u : Term} {ts us : Terms} → More t ts ≡ More u us → ts ≡ us
+pub row-tail : {t u : Term} {ts us : Terms} → More t ts ≡ More u us → ts ≡ us
 row-tail e = cc
 
 Each-pairs_from : (f : ℕ → Term) (names : List Name) (cells : List Cell) (a b n : ℕ) → (all_replaced f (args_at names cells a n) ≡ all_replaced f (args_at names cells b n)) ↔ Each f names cells (pairs_from a b n)
@@ -144,7 +144,7 @@ Each-reverse f names cells (p ∷ ps) =
 from_reverse : (old new ps : List (Ref × Ref)) → reverse new ≡ ps ++ reverse old → new ≡ old ++ reverse ps
 from_reverse old new ps e = sym (reverse-reverse new) ∙ ap reverse e ∙ reverse-append ps (reverse old) ∙ ap (λ l. l ++ reverse ps) (reverse-reverse old)
 
-count-args_at : (names : List Name) (cells : List Cell) (a n : ℕ) → count_of (args_at names cells a n) ≡ n
+pub count-args_at : (names : List Name) (cells : List Cell) (a n : ℕ) → count_of (args_at names cells a n) ≡ n
 count-args_at names cells a zero = refl
 count-args_at names cells a (suc n) = let h = count-args_at names cells (suc a) n in omega (arith, h)
 
@@ -195,7 +195,7 @@ same_names names c a b m n t lm ln e = same_place names t.distinct m n lm ln e
 named_end : (names : List Name) (c : Contents) (e : End) → IsEnd c e → Names names c.cells → IsNamed (length names) e.cell
 named_end names c e h t = AreNamed-cell (length names) c.cells e.place.at e.cell t.named h.cell
 
-atom-name : {f g : List ℕ} → Atom f ≡ Atom g → f ≡ g
+pub atom-name : {f g : List ℕ} → Atom f ≡ Atom g → f ≡ g
 atom-name e = cc
 
 pub clash_constants : (c : Contents) (a b : End) (work : List (Ref × Ref)) → IsEnd c a → IsEnd c b → IsConstant a.cell → ((v : ℕ) → b.cell ≡ cell.Var v → ⊥) → constants_eq a.cell b.cell ≡ false → CellStep c a.cell b.cell work work Clash
@@ -231,10 +231,10 @@ same_constants c a b work e = same_cells c a b work (go a b e)
     go (cell.Atom m) (cell.Int n) e = absurd (cc)
     go (cell.Atom m) (cell.Comp name first count) e = absurd (cc)
 
-comp-name : {f g : List ℕ} {ts us : Terms} → Comp f ts ≡ Comp g us → f ≡ g
+pub comp-name : {f g : List ℕ} {ts us : Terms} → Comp f ts ≡ Comp g us → f ≡ g
 comp-name e = cc
 
-comp-args : {f g : List ℕ} {ts us : Terms} → Comp f ts ≡ Comp g us → ts ≡ us
+pub comp-args : {f g : List ℕ} {ts us : Terms} → Comp f ts ≡ Comp g us → ts ≡ us
 comp-args e = cc
 
 pub clash_names : (c : Contents) (a b : End) (m k : AtomId) (first second : Ref) (n i : ℕ) (work : List (Ref × Ref)) → IsEnd c a → IsEnd c b → a.cell ≡ cell.Comp m first n → b.cell ≡ cell.Comp k second i → m.at ≢ k.at → CellStep c a.cell b.cell work work Clash
