@@ -5,3 +5,4 @@ pub mod GoesBack
 pub mod Grows
 pub mod Meets
 pub mod Gives
+pub mod Trying

@@ -1,4 +1,3 @@
 -- Goals met with the heads of clauses.
 pub mod HeadsMet
-pub mod Matched
 pub mod Program

@@ -23,7 +23,8 @@ use Rattle.tp_machine.specs.declared.task.Call.{Call}
 use Rattle.tp_machine.specs.Machine.{base_in, world_in}
 use Rattle.tp_machine.specs.Meets.{Calls, IsCause, Meets, its_turn}
 
--- the running process's goal makes the terms of two places equal, and goes on with what is behind it
+-- the running process's goal makes the terms of two places equal, and goes on with what is behind
+-- it
 pub record Unites (m : Machine) (t : Task) (left right : Ref) : Type 0 where
   pub meets : Meets m t
   pub left_there : left.at < length m.state.store.cells

@@ -1,5 +1,5 @@
 -- The kinds of errors that goals raise.
-use Rattle.std.specs.Prelude.{◌<◌, List, [], length, codes}
+use Rattle.std.specs.Prelude.{◌<◌, List, length, codes}
 use Rattle.tp_terms.specs.declared.cells.Cell.{Cell}
 use Rattle.tp_terms.specs.Term.{Name, Term, Int, Atom, Comp, NoMore, More, atom}
 use Rattle.tp_terms.specs.Shown.{name_at, shows}

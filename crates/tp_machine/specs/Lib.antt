@@ -3,10 +3,12 @@ pub mod Built
 pub mod Causes
 pub mod Enters
 pub mod Heads
+pub mod HeadsTried
 pub mod Untried
 pub mod Conditions
 pub mod Machine
 pub mod Meets
+pub mod Trying
 pub mod Parts
 pub mod Goes
 pub mod Calling

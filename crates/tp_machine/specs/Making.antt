@@ -82,7 +82,8 @@ ending_by (given.Refused why) = ending.Refused why
 -- ---- its goal
 
 -- the goal that the new process begins with stands at a place
-pub record HasGoal (m : Machine) (t : Task) (c : Call) (new : NewProcess) (goal : Ref) : Type 0 where
+pub record HasGoal (m : Machine) (t : Task) (c : Call) (new : NewProcess) (goal : Ref)
+    : Type 0 where
   pub end : HasEnd m t c new
   pub within : goal.at < length m.state.store.cells
   pub is : seen m.atoms m.state.store goal.at

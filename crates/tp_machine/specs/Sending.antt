@@ -31,7 +31,8 @@ use Rattle.tp_machine.specs.Meets.{Calls, Fails, its_turn}
 -- the process that the term of a place names, or why it names none
 abbrev pub FindsReceiver : Machine → Ref → Result ℕ Cause → Type 0
 FindsReceiver m at (Ok p) = receiver (world_in m) (seen m.atoms m.state.store at.at) ≡ Ok p
-FindsReceiver m at (Err why) = Fails m (receiver (world_in m) (seen m.atoms m.state.store at.at)) why
+FindsReceiver m at (Err why) =
+    Fails m (receiver (world_in m) (seen m.atoms m.state.store at.at)) why
 
 -- the processes of what is left of a list at the second place, the whole of which stands at the
 -- first

@@ -25,8 +25,8 @@ second_in (Ok g) = second_of g
 second_in (Err kind) = []
 
 -- the worlds of a goal's clauses from a place on, where clauses define it; the second world of a
--- control goal or of `wait`; and the worlds of the messages that a `wait_for` may take, from a place
--- of the box on
+-- control goal or of `wait`; and the worlds of the messages that a `wait_for` may take, from a
+-- place of the box on
 abbrev pub untried_named : Base → Turn → ℕ → Name → Terms → Option GoalKind → Alt → List World
 untried_named base t b f ts None (Clause place) =
     worlds_of t (term_of f ts) (drop place (predicate base f (count_of ts)))

@@ -1,10 +1,11 @@
 //! Goals that clauses define.
 
-ghost use Rattle.std.specs.Prelude.{OnErr, ◌≡◌, ◌+◌, ◌<◌, ◌^◌, ◌-◌, Some, None, IfOk, IfSome, OnOk, length, slice_get, map, drop};
+ghost use Rattle.std.specs.Prelude.{◌≡◌, ℕ, ◌+◌, ◌<◌, [], ◌∷◌, true, false, Ok, Some, None, IfOk, OnOk, OnErr, length};
+ghost use Rattle.tp_machine.specs.declared.task.Call.{Call};
 
 use crate::errors::Cause;
 use crate::goals::met;
-use crate::heads::{enter_clause, meets};
+use crate::heads::{Head, try_head};
 use crate::machine::Machine;
 use crate::stepped::Stepped;
 use crate::task::{Call, Met, Task};
@@ -13,103 +14,90 @@ use tp_control::{Alt, Item};
 use tp_meaning::DeadCause;
 use tp_terms::NoMemory;
 
-/// The clause's own place, by its place among others.
-fn id_at(places: &[ClauseId], place: usize) -> ClauseId
-    requires { place < length places.now }
-    ensures { slice_get places.now place ≡ Some result }
-{
-    places[place]
-}
-
 impl<'a> Machine<'a> {
-    ghost use Rattle.tp_clauses.specs.Contents.{clauses_at};
     ghost use Rattle.tp_control.specs.declared.choices.Alt.{Alt};
-    ghost use Rattle.tp_machine.specs.Machine.{IsMachine, IsProgram, SameProgram, Steps, Resumes};
-    ghost use Rattle.tp_machine.specs.Meets.{Calls, Hits, IsCurrent, clauses_of, found_from};
+    ghost use Rattle.tp_machine.specs.Machine.{IsMachine, SameProgram, Steps, Resumes};
+    ghost use Rattle.tp_machine.specs.Meets.{Calls, IsCurrent, Meets};
     ghost use Rattle.tp_machine.specs.Goes.{IsKept, Enters, Returns};
-
-    /// The places of the clauses of a goal, in text order.
-    fn places(&self, call: Call) -> &[ClauseId]
-        requires program { IsProgram self.now }
-        requires name { call.name.at < length self.now.atoms }
-        ensures { clauses_at self.now.atoms self.now.base.now result.now
-            ≡ map Some (clauses_of self.now call) }
-    {
-        match self.base.clauses(call.name, call.count) {
-            Some(places) => places,
-            None => &[],
-        }
-    }
-
-    /// The first clause of a goal, from a place among its clauses on, whose head has a unifier with
-    /// it.
-    fn next_match(&mut self, task: Task, call: Call, from: usize) -> Result<Option<usize>, NoMemory>
-        requires machine { IsMachine self.old }
-        requires call { Calls self.old task call None }
-        ensures same { OnOk result (self.new ≡ self.old) }
-        ensures found { IfOk result (λ r. r ≡ found_from self.old task call from) }
-        ensures few { IfOk result (λ r. IfSome r (λ k. k < 2 ^ 63)) }
-        ensures program { OnErr result (SameProgram self.old self.new) }
-    {
-        let count = self.places(call).len();
-        for k in from..count {
-            let id = id_at(self.places(call), k);
-            let clause = self.base.clause(id);
-            if meets(&mut self.state.store, task.goal, self.base.cells(), clause)? {
-                return Ok(Some(k));
-            }
-        }
-        Ok(None)
-    }
+    ghost use Rattle.tp_machine.specs.Trying.{AreTried, IsPlaced, StillTries, hits_at};
 
     /// A goal goes on with the first of its clauses that has a unifier with it, and a choice is
-    /// kept for the others.
+    /// kept where another one has.
     pub(crate) fn run_clauses(&mut self, task: Task, call: Call) -> Result<Stepped, NoMemory>
         requires machine { IsMachine self.old }
         requires call { Calls self.old task call None }
         ensures done { IfOk result (Steps self.old self.new) }
         ensures program { OnErr result (SameProgram self.old self.new) }
     {
-        if self.places(call).is_empty() {
+        let Some(ids) = self.candidates(call) else {
             return self.raise(task, Cause::Unknown(call.name, call.count));
+        };
+        if ids.len() == 1 {
+            return self.run_only(task, ids[0]);
         }
-        let Some(first) = self.next_match(task, call, 0)? else {
+        let Some(first) = self.next_match(task.goal, ids)? else {
             return Ok(Stepped::Dead(DeadCause::Failed));
         };
-        self.keep_clauses(task, call, first + 1)?;
-        self.enter(task, call, first)?;
+        self.keep_clauses(task, &ids[first + 1..])?;
+        self.enter(task, ids[first])?;
         Ok(Stepped::Went)
     }
 
-    /// Keeps a choice, where a clause from a place on has a unifier with the goal.
-    fn keep_clauses(&mut self, task: Task, call: Call, from: usize) -> Result<(), NoMemory>
+    /// A goal goes on with the only clause that may have a unifier with it.
+    fn run_only(&mut self, task: Task, id: ClauseId) -> Result<Stepped, NoMemory>
         requires machine { IsMachine self.old }
-        requires call { Calls self.old task call None }
-        ensures done { OnOk result (IsKept self.old (Alt.Clause from) self.new) }
+        requires tries { StillTries self.old task (id ∷ []) }
+        ensures done { IfOk result (λ stepped. (call : Call) → Calls self.old task call None →
+            AreTried self.old task call 0 (id ∷ []) → Steps self.old self.new stepped) }
         ensures program { OnErr result (SameProgram self.old self.new) }
     {
-        match self.next_match(task, call, from)? {
+        if self.enter(task, id)? {
+            Ok(Stepped::Went)
+        } else {
+            Ok(Stepped::Dead(DeadCause::Failed))
+        }
+    }
+
+    /// Keeps a choice, where one of some clauses has a unifier with the goal.
+    fn keep_clauses(&mut self, task: Task, ids: &[ClauseId]) -> Result<(), NoMemory>
+        requires machine { IsMachine self.old }
+        requires tries { StillTries self.old task ids.now }
+        ensures done { OnOk result ((call : Call) (from : ℕ) → Calls self.old task call None →
+            AreTried self.old task call from ids.now → IsKept self.old (Alt.Clause from) self.new) }
+        ensures same { OnOk result
+            (self.new ≡ record self.old { choices = self.new.choices }) }
+        ensures program { OnErr result (SameProgram self.old self.new) }
+    {
+        match self.next_match(task.goal, ids)? {
             Some(next) => {
-                self.keep(Alt::Clause(next))?;
+                let place = self.base.place(ids[next]);
+                self.keep(Alt::Clause(place))?;
                 Ok(())
             }
             None => Ok(()),
         }
     }
 
-    /// Replaces a goal by the body of its clause at a place.
-    fn enter(&mut self, task: Task, call: Call, place: usize) -> Result<(), NoMemory>
-        requires { Hits self.old task call place }
-        ensures done { OnOk result (Enters self.old place self.new) }
+    /// Replaces a goal by the body of a clause, where its head has a unifier with the goal; else
+    /// all stays.
+    fn enter(&mut self, task: Task, id: ClauseId) -> Result<bool, NoMemory>
+        requires meets { Meets self.old task }
+        requires clause { id.at < length self.old.base.now.clauses }
+        ensures met { IfOk result (λ found. found ≡ hits_at self.old task.goal id) }
+        ensures done { result ≡ Ok true → (call : Call) (place : ℕ) →
+            IsPlaced self.old task call place id → Enters self.old place self.new }
+        ensures stays { result ≡ Ok false → self.new ≡ self.old }
         ensures program { OnErr result (SameProgram self.old self.new) }
     {
-        let id = id_at(self.places(call), place);
         let clause = self.base.clause(id);
+        let Head::Met(body) = try_head(&mut self.state, task.goal, self.base.cells(), clause)?
+        else {
+            return Ok(false);
+        };
         self.state.items = task.rest;
-        let body = enter_clause(&mut self.state, task.goal, self.base.cells(), clause)?;
         self.state.push_body(body, self.stamp)?;
         self.stamp += 1;
-        Ok(())
+        Ok(true)
     }
 
     /// On with the clause at a place.
@@ -122,8 +110,10 @@ impl<'a> Machine<'a> {
         let Some((task, call)) = self.current() else {
             unreachable!()
         };
-        self.keep_clauses(task, call, place + 1)?;
-        self.enter(task, call, place)?;
+        let id = self.clause_at(call, place);
+        let behind = self.candidates_behind(call, id);
+        self.keep_clauses(task, behind)?;
+        self.enter(task, id)?;
         Ok(())
     }
 

@@ -7,11 +7,9 @@ ghost use Rattle.tp_terms.specs.Shown.{AreNamed};
 ghost use Rattle.tp_store.specs.Contents.{IsStore, Names};
 ghost use Rattle.std.specs.Prelude.{is_some};
 ghost use Rattle.tp_clauses.specs.Contents.{ViewFits};
-ghost use Rattle.tp_state.specs.Acts.{with_store};
-ghost use Rattle.tp_state.specs.Going.{Follows};
-ghost use Rattle.tp_state.specs.State.{plain_of, held_of};
 ghost use Rattle.tp_machine.specs.Program.{head_term};
-ghost use Rattle.tp_machine.specs.Heads.{EntersClause, unifier};
+ghost use Rattle.tp_machine.specs.Heads.{unifier};
+ghost use Rattle.tp_machine.specs.HeadsTried.{TriesHead, is_met};
 
 use tp_clauses::ClauseView;
 use tp_state::State;
@@ -35,37 +33,48 @@ pub fn meets(
 {
     let mark = store.mark();
     let base = store.claim(clause.vars)?;
-    let head = store.instance(cells, clause.head, base)?;
-    let found = store.unifiable(goal, head)?;
+    let found = store.head_unifiable(goal, cells, clause.head, base)?;
     store.back_to(mark);
     Ok(found)
 }
 
-/// Makes the head of a clause equal to a goal, where that can be, and answers the place of its
-/// body.
-pub fn enter_clause(
+/// What became of a goal and the head of a clause.
+#[derive(Clone, Copy, Debug)]
+pub enum Head {
+    /// They have no unifier.
+    Apart,
+    /// They were made equal. The place of the clause's body, where it has one.
+    Met(Option<Ref>),
+}
+
+/// Makes the head of a clause equal to a goal, and its body a term of the store. Where the head has
+/// no unifier with the goal, all stays.
+pub fn try_head(
     state: &mut State,
     goal: Ref,
     cells: &Cells,
     clause: ClauseView,
-) -> Result<Option<Ref>, NoMemory>
+) -> Result<Head, NoMemory>
     requires goal { goal.at < length state.old.store.cells }
     requires clause { ViewFits cells.now.items clause }
-    ensures enters { IfOk result (λ place. (names : List Name) →
+    ensures met { IfOk result (λ head. (names : List Name) →
         Names names state.old.store.cells → AreNamed (length names) cells.now.items →
-        EntersClause names goal.at cells.now.items clause state.old.store place state.new.store) }
-    ensures plain { OnOk result (plain_of state.new
-        ≡ with_store state.new.store (plain_of state.old)) }
-    ensures follows { OnOk result (Follows (held_of state.old) (held_of state.new)) }
-    ensures store { IsStore state.new.store }
+        is_met head ≡ is_some
+        (unifier names state.old.store goal.at (head_term names cells.now.items clause))) }
+    ensures tried { IfOk result (TriesHead goal cells.now.items clause state.old state.new) }
 {
+    let mark = state.store.mark();
     let base = state.store.claim(clause.vars)?;
-    let _met = state
+    let met = state
         .store
         .unify_head(goal, cells, clause.head, base, &mut state.log)?;
+    if !met {
+        state.store.back_to(mark);
+        return Ok(Head::Apart);
+    }
     let Some(body) = clause.body else {
-        return Ok(None);
+        return Ok(Head::Met(None));
     };
     let body = state.store.instance(cells, body, base)?;
-    Ok(Some(body))
+    Ok(Head::Met(Some(body)))
 }

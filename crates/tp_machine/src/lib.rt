@@ -6,6 +6,7 @@ mod begin;
 mod between;
 mod built_ins;
 mod call;
+mod candidates;
 mod clauses;
 mod control;
 mod enter;

@@ -1,7 +1,7 @@
 //! Each public call once, on a model from outside. The refusals are cases of the program.
 
 use std::test::Fail;
-use tp_clauses::{Base, Cause, ClauseId, LoadFault};
+use tp_clauses::{Base, Cause, ClauseId, FirstArg, LoadFault};
 use tp_terms::symbols::CALL;
 use tp_terms::{AtomId, Atoms, Cell};
 
@@ -48,5 +48,23 @@ fn clauses_of_a_model(rt: HostRuntime) -> Result<(), Fail> {
     };
     let again = Base::load(rt.alloc(), b"p. call(a,b,c,d,e,f,g,h) :- 1.", &mut atoms);
     assert_eq!(rt; again.err(), Some(refused));
+    Ok(())
+}
+
+#[test]
+fn candidates_of_a_goal(rt: HostRuntime) -> Result<(), Fail> {
+    let mut atoms = Atoms::start(rt.alloc())?;
+    let base = Base::load(rt.alloc(), b"p(1). p(a). p(X).", &mut atoms)?;
+    let (p, f) = (atoms.intern("p")?, atoms.intern("f")?);
+    let (one, two, three) = (ClauseId { at: 0 }, ClauseId { at: 1 }, ClauseId { at: 2 });
+
+    let of_one = base.candidates(p, 1, FirstArg::Int(1));
+    assert!(rt; of_one == Some([one, three].as_slice()));
+    let of_compound = base.candidates(p, 1, FirstArg::Comp(f, 1));
+    assert!(rt; of_compound == Some([three].as_slice()));
+    let of_any = base.candidates(p, 1, FirstArg::Any);
+    assert!(rt; of_any == Some([one, two, three].as_slice()));
+    assert!(rt; base.candidates(f, 1, FirstArg::Any).is_none());
+    assert!(rt; base.count() == 3 && base.place(three) == 2);
     Ok(())
 }

@@ -1,5 +1,5 @@
 -- Times that goals give, on a machine whose store grew.
-use Rattle.std.proofs.Common.{◌≡◌, ℕ, ◌<◌, Bool, true, false, nat_lt, if◌then◌else◌, length, Option, Ok, Err, ℤ, pos, negsuc, int_le, int_lt, refl, ap, sym, subst, ◌∙◌, arith, length-append}
+use Rattle.std.proofs.Common.{◌≡◌, ℕ, ◌<◌, Bool, true, false, nat_lt, if◌then◌else◌, length, Option, Ok, Err, ℤ, pos, negsuc, int_le, int_lt, refl, ap, sym, subst, ◌∙◌, arith}
 use Rattle.std.specs.Prelude.{FitsSigned, OnErr, Result, ◌+ℤ◌}
 use Rattle.std.specs.Int.{w64}
 use Rattle.std.proofs.lemmas.Bool.{le-leb}
@@ -25,10 +25,10 @@ use Rattle.tp_machine.specs.declared.task.Call.{Call}
 use Rattle.tp_machine.specs.BuiltIns.{Grew}
 use Rattle.tp_machine.specs.Causes.{domain_word, wrong_domain}
 use Rattle.tp_machine.specs.Enters.{Rests}
-use Rattle.tp_machine.specs.Machine.{IsMachine, SameProgram, world_in}
+use Rattle.tp_machine.specs.Machine.{IsMachine, SameProgram}
 use Rattle.tp_machine.specs.Meets.{Calls}
 use Rattle.tp_machine.specs.Times.{IsTime, in_domain, timely}
-use Rattle.tp_machine.proofs.Grows.Grown.{calls_still, rests, seen_still, world_still}
+use Rattle.tp_machine.proofs.Grows.Grown.{calls_still, rests, seen_still}
 
 -- ---- cells were added to the machine's store
 
@@ -51,13 +51,6 @@ module _ (old new : Machine) (is : IsMachine old) (g : Grew old new) where
   -- what was there is seen as before
   pub grew_seen : (at : ℕ) → at < length old.state.store.cells → seen new.atoms new.state.store at ≡ seen old.atoms old.state.store at
   grew_seen at lt = ap (λ (q : Machine). seen q.atoms new.state.store at) g.same ∙ seen_still old new.state.store is g.adds g.keeps g.store g.named at lt
-
-  pub grew_longer : (at : ℕ) → at < length old.state.store.cells → at < length new.state.store.cells
-  grew_longer at lt = omega (arith, lt, ap length g.adds.cells, length-append old.state.store.cells g.adds.more)
-
-  -- the world is the same
-  pub grew_world : world_in new ≡ world_in old
-  grew_world = ap world_in g.same ∙ world_still old new.state.store is g.adds g.keeps g.store g.named
 
   -- the value of a place's term is that of the term under the bindings
   pub grew_value : (at : ℕ) → at < length old.state.store.cells → value (subst_of new.atoms new.state.store) (seen new.atoms new.state.store at) ≡ evaluated (seen old.atoms old.state.store at)

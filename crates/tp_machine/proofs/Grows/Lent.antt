@@ -26,7 +26,7 @@ use Rattle.tp_machine.specs.declared.machine.Machine.{Machine}
 use Rattle.tp_machine.specs.declared.task.Task.{Task}
 use Rattle.tp_machine.specs.declared.task.Call.{Call}
 use Rattle.tp_machine.specs.BuiltIns.{Grew, Ran, heap_in, swapped, with_terms}
-use Rattle.tp_machine.specs.Machine.{IsMachine, SameProgram}
+use Rattle.tp_machine.specs.Machine.{IsMachine}
 use Rattle.tp_machine.specs.Meets.{Calls}
 use Rattle.tp_build.proofs.RowAnswers.Counts.{count-fits}
 
@@ -54,14 +54,6 @@ module _ (m s new : Machine) (v : View) (e : s ≡ swapped m) (e' : new ≡ swap
 
   adds_back : heap.AddsCells (lent s.view) (lent v) → heap.AddsCells (heap_in m) (heap_in new)
   adds_back a = subst (λ k. heap.AddsCells (heap_in m) k) (sym heap_back) (subst (λ k. heap.AddsCells k (lent v)) lent_is a)
-
-  -- base and goal are the same, and names were only added
-  pub same_back : HeapGrows (lent s.view) (lent v) → SameProgram m new
-  same_back g = record {
-    base = ap (λ (q : Machine). q.base.now) comes_back;
-    goal = ap (λ (q : Machine). q.goal.now) comes_back;
-    names = (grows_back g).names;
-  }
 
   -- where only cells were added, the machine's store alone grew
   pub grew : IsMachine m → heap.AddsCells (lent s.view) (lent v) → IsHeap (lent v) → IsStore new.state.store → Grew m new
@@ -135,11 +127,3 @@ module _ (m : Machine) (t : Task) (c : Call) (id : BuiltId) (is : IsMachine m) (
     heap = subst IsHeap (sym (heap_back m s new v e e')) k;
     store = st;
   }
-
--- so it is where further terms are built
-pub same_ran : (m new : Machine) (t : Task) (c : Call) (id : BuiltId) (o : Outcome) → Ran m new t c id o → SameProgram m new
-same_ran m new t c id o r = record {
-  base = ap (λ (q : Machine). q.base.now) r.same;
-  goal = ap (λ (q : Machine). q.goal.now) r.same;
-  names = r.grows.names;
-}

@@ -1,5 +1,5 @@
 -- Goals met with the heads of clauses, and clauses entered.
-use Rattle.std.proofs.Common.{◌≡◌, ℕ, zero, suc, ◌+◌, ◌<◌, ◌≤◌, Bool, true, false, if◌then◌else◌, List, [], ◌∷◌, ◌++◌, map, length, drop, get_or, slice_get, Option, Some, None, is_some, refl, ap, sym, subst, ◌∙◌, arith, length-append, append_assoc}
+use Rattle.std.proofs.Common.{◌≡◌, ℕ, zero, suc, ◌+◌, ◌<◌, ◌≤◌, Bool, true, false, if◌then◌else◌, List, [], ◌∷◌, ◌++◌, map, length, drop, get_or, slice_get, Option, Some, None, is_some, refl, ap, sym, subst, ◌∙◌, arith, length-append, append-nil, append_assoc}
 use Rattle.std.specs.Option.{option_map}
 use Rattle.std.specs.List.{position_from}
 use Rattle.std.proofs.lemmas.Option.{slice_get_within, slice_get-get_or, get_or_from_slice_get}
@@ -9,7 +9,7 @@ use Rattle.tp_terms.specs.declared.cells.Ref.{Ref}
 use Rattle.tp_terms.specs.declared.world.StoreMark.{StoreMark}
 use Rattle.tp_log.specs.declared.entry.Entry.{Entry}
 use Rattle.tp_state.specs.Going.{StoreGrows}
-use Rattle.tp_terms.specs.Term.{Name, Term, Comp, term_of}
+use Rattle.tp_terms.specs.Term.{Name, Comp, term_of}
 use Rattle.tp_terms.specs.Shown.{name_at, shows, shown_from, args_at, AreBuilt, StandsBefore, AreNamed}
 use Rattle.tp_terms.proofs.Places.Shown.{shows-cell}
 use Rattle.tp_meaning.specs.Subst.{Subst, mgu}
@@ -25,47 +25,22 @@ use Rattle.tp_clauses.specs.Contents.{AreBelow, IsHead, ViewFits, clause_of, cla
 use Rattle.tp_machine.specs.Program.{head_term, body_term}
 use Rattle.tp_machine.specs.Heads.{unifier, hits, EntersClause}
 
--- ---- a store with further variables and cells
+-- variables that were claimed and are given back
+module _ (old claimed : Contents) (n : ℕ) (vars : claimed ≡ with_vars old n) (mark : StoreMark) (s : IsStore old) (cells_marked : mark.cells ≡ length old.cells) (vars_marked : mark.vars ≡ old.vars) where
+  claimed_cells : claimed.cells ≡ old.cells ++ []
+  claimed_cells = ap (λ (c : Contents). c.cells) vars ∙ sym (append-nil old.cells)
 
-module _ (old claimed mid : Contents) (n : ℕ) (vars : claimed ≡ with_vars old n) (adds : AddsCells claimed mid) (keeps : Keeps claimed mid) where
-  mid_cells : mid.cells ≡ old.cells ++ adds.more
-  mid_cells = adds.cells ∙ ap (λ (c : Contents). c.cells ++ adds.more) vars
+  claimed_pairs : claimed.pairs ≡ old.pairs
+  claimed_pairs = ap (λ (c : Contents). c.pairs) vars
 
-  mid_pairs : mid.pairs ≡ old.pairs
-  mid_pairs = adds.pairs ∙ ap (λ (c : Contents). c.pairs) vars
+  claimed_vars : claimed.vars ≡ old.vars + n
+  claimed_vars = ap (λ (c : Contents). c.vars) vars
 
-  pub mid_vars : mid.vars ≡ old.vars + n
-  mid_vars = adds.vars ∙ ap (λ (c : Contents). c.vars) vars
+  pub claimed_can : CanGoBack claimed mark
+  claimed_can = can_go_back old claimed mark [] s claimed_cells claimed_pairs (omega (arith, claimed_vars)) cells_marked vars_marked
 
-  pub mid_longer : length old.cells ≤ length mid.cells
-  mid_longer = omega (arith, ap length mid_cells, length-append old.cells adds.more)
-
-  pub mid_subst : (names : List Name) → subst_of names mid ≡ subst_of names old
-  mid_subst names = keeps.bindings names ∙ ap (subst_of names) vars
-
-  pub mid_kept : (names : List Name) (at : ℕ) → at < length old.cells → shows names mid.cells at ≡ shows names old.cells at
-  mid_kept names at lt = keeps.terms names at (subst (λ (c : Contents). at < length c.cells) (sym vars) lt) ∙ ap (λ (c : Contents). shows names c.cells at) vars
-
-  module _ (mark : StoreMark) (s : IsStore old) (cells_marked : mark.cells ≡ length old.cells) (vars_marked : mark.vars ≡ old.vars) where
-    pub mid_can : CanGoBack mid mark
-    mid_can = can_go_back old mid mark adds.more s mid_cells mid_pairs (omega (arith, mid_vars)) cells_marked vars_marked
-
-    pub mid_back : cut_to_mark mid mark ≡ old
-    mid_back = went_back old mid mark adds.more s mid_cells mid_pairs (omega (arith, mid_vars)) cells_marked vars_marked
-
-  module _ (names : List Name) (base goal head : ℕ) (t : Term) (first : base ≡ old.vars) (within : goal < length old.cells) (shown : shows names mid.cells head ≡ renamed base t) where
-    pub mid_unifier : mgu (subst_of names mid) (shows names mid.cells goal) (shows names mid.cells head) ≡ unifier names old goal t
-    mid_unifier =
-        ap (λ s. mgu s (shows names mid.cells goal) (shows names mid.cells head)) (mid_subst names)
-        ∙ ap (λ g. mgu (subst_of names old) g (shows names mid.cells head)) (mid_kept names goal within)
-        ∙ ap (mgu (subst_of names old) (shows names old.cells goal)) (shown ∙ ap (λ b. renamed b t) first)
-
-  -- names for the new cells
-  pub mid_names : (names : List Name) (cells : List Cell) → Names names old.cells → AreNamed (length names) cells → ((k : ℕ) → AreNamed k cells → AreNamed k claimed.cells → AreNamed k mid.cells) → Names names mid.cells
-  mid_names names cells h named more = record {
-    distinct = h.distinct;
-    named = more (length names) named (subst (λ (c : Contents). AreNamed (length names) c.cells) (sym vars) h.named);
-  }
+  pub claimed_back : cut_to_mark claimed mark ≡ old
+  claimed_back = went_back old claimed mark [] s claimed_cells claimed_pairs (omega (arith, claimed_vars)) cells_marked vars_marked
 
 -- what a call that answers a unifier found
 pub was_found : (r : Bool) (u : Subst) (o : Option Subst) → o ≡ (if r then Some u else None) → is_some o ≡ true → o ≡ Some u
@@ -153,6 +128,16 @@ module _ (names : List Name) (goal : ℕ) (cells : List Cell) (t : ClauseView) (
       (sym (ap (λ (c : Contents). mgu (subst_of names c) (shows names c.cells goal) (renamed base (head_term names cells t))) vars
       ∙ ap (λ b. mgu (subst_of names old) (shows names old.cells goal) (renamed b (head_term names cells t))) first)
       ∙ found) h
+
+  -- whether the head and the goal have a unifier is what was answered
+  pub unifies : met ≡ is_some (unifier names old goal (head_term names cells t))
+  unifies =
+      sym (ap is_some (sym (ap (λ (c : Contents). mgu (subst_of names c) (shows names c.cells goal) (renamed base (head_term names cells t))) vars
+      ∙ ap (λ b. mgu (subst_of names old) (shows names old.cells goal) (renamed b (head_term names cells t))) first) ∙ found) ∙ by_met met)
+    where
+      by_met : (b : Bool) → is_some (if b then Some (subst_of names new) else None) ≡ b
+      by_met true = refl
+      by_met false = refl
 
   new_vars : new.vars ≡ old.vars + t.vars
   new_vars = logged.vars ∙ ap (λ (c : Contents). c.vars) vars

@@ -244,9 +244,6 @@ module _ (m new : Machine) (t : Task) (c : Call) (id : BuiltId) (o : Outcome) (r
 
     module _ (claimed : new.state.store.vars ≡ m.state.store.vars) (kind : Ref) (within : kind.at < length new.state.store.cells) (d : Contents) (place : Ref) (process : AtomId) where
       module _ (b : Built new.atoms new.state.store d place.at (error (shows new.atoms new.state.store.cells kind.at) (name_at new.atoms process.at))) where
-        all_more : List Cell
-        all_more = r.grows.more ++ b.adds.more
-
         d_cells : d.cells ≡ m.state.store.cells ++ (r.grows.more ++ b.adds.more)
         d_cells = b.adds.cells ∙ ap (λ cs. cs ++ b.adds.more) cells_are ∙ append_assoc m.state.store.cells r.grows.more b.adds.more
 

@@ -102,13 +102,6 @@ not_below l h e = ap (λ a. int_lt a l) (sym ((Decides-int_eq l h).0 e)) ∙ sel
 pub given_unbound : (x : Term) → (v : ℕ) × (x ≡ Var v) → integer_given x ≡ Err unbound
 given_unbound x h = ap integer_given h.1
 
-pub given_other : (x : Term) (g : Name) (ts : Terms) → x ≡ term_of g ts → integer_given x ≡ Err (type_error "integer" x)
-given_other x g ts e = ap integer_given e ∙ by ts ∙ ap (λ y. Err (type_error "integer" y)) (sym e)
-  where
-    by : (ts : Terms) → integer_given (term_of g ts) ≡ Err (type_error "integer" (term_of g ts))
-    by NoMore = refl
-    by (More t ts) = refl
-
 -- no number is one that isn't an integer
 not_counted : (w : Turn) (b : ℕ) (f : Name) (l h : ℤ) (g : Name) (ts : Terms) → counted w b f l h (term_of g ts) ≡ Err (type_error "integer" (term_of g ts))
 not_counted w b f l h g NoMore = refl

@@ -1,5 +1,5 @@
 -- Steps in which a process is made.
-use Rattle.std.proofs.Common.{◌≡◌, ℕ, ◌+◌, ◌-◌, ◌<◌, ◌≤◌, Bool, true, false, if◌then◌else◌, List, [], ◌∷◌, ◌++◌, length, Some, None, Ok, Err, is_some, nat_eq, codes, ℤ, int_lt, Result, refl, ap, sym, subst, ◌∙◌, arith, length-append}
+use Rattle.std.proofs.Common.{◌≡◌, ℕ, ◌+◌, ◌<◌, ◌≤◌, Bool, true, false, if◌then◌else◌, List, [], ◌∷◌, ◌++◌, length, Some, None, Ok, Err, is_some, nat_eq, codes, ℤ, int_lt, Result, refl, ap, sym, subst, ◌∙◌, arith, length-append}
 use Rattle.std.proofs.lemmas.Bool.{eq-eqb, ne_eqb}
 use Rattle.tp_terms.specs.declared.Limit.{Limit}
 use Rattle.tp_terms.specs.declared.Limit.TheVariants.{At, Inf}
@@ -20,7 +20,7 @@ use Rattle.tp_procs.specs.Processes.{named}
 use Rattle.tp_meaning.specs.declared.goals.GoalKind.TheVariants.{Process}
 use Rattle.tp_meaning.specs.declared.goals.ProcessGoal.TheVariants as goal
 use Rattle.tp_meaning.specs.Arith.{evaluated, value}
-use Rattle.tp_meaning.specs.Checks.{Checked, ◌>>=◌, ◌>>◌, ◌if◌, bound, callable, domain_error, permission_error, type_error, unbound}
+use Rattle.tp_meaning.specs.Checks.{Checked, ◌>>=◌, ◌>>◌, ◌if◌, bound, callable, domain_error, permission_error, type_error}
 use Rattle.tp_meaning.specs.Control.{arg}
 use Rattle.tp_meaning.specs.Process as meaning
 use Rattle.tp_meaning.specs.Process.{created, end_of, is_inf, new_name, with_new}

@@ -18,7 +18,7 @@ use Rattle.tp_meaning.specs.Search.{Branch}
 use Rattle.tp_meaning.specs.Step.{step}
 use Rattle.tp_meaning.specs.World as world
 use Rattle.tp_meaning.specs.World.{World, box_at, with_box, with_event, world_under}
-use Rattle.tp_meaning.specs.Turn.{Turn, going}
+use Rattle.tp_meaning.specs.Turn.{Turn}
 use Rattle.tp_meaning.proofs.Unification.Applied.{mgu-solves, solves-over}
 use Rattle.tp_meaning.proofs.ValidWorlds.Leaves.{runs-there}
 use Rattle.tp_mail.specs.Mail.{box_of}
@@ -154,10 +154,6 @@ box-stands : (n : ℕ) (bs : List (List Ref)) (pid : ℕ) → pid < length bs �
 box-stands n [] pid lt h = absurd (omega arith)
 box-stands n (b ∷ bs) zero lt h = h.0
 box-stands n (b ∷ bs) (suc pid) lt h = box-stands n bs pid (omega arith) h.1
-
--- no message is from the end of the box on
-pub message_past : (m : Machine) (t : Task) (c : Call) (place : ℕ) → length (box_in m t) ≤ place → message_from m t c place ≡ None
-message_past m t c place le = ap (position_from (may_take m c) place) (drop_none (box_in m t) place le)
 
 -- whether a message has a unifier with the argument, as the store finds it
 pub may_take-is : (m : Machine) (c : Call) (message : Ref) → IsStanding m → (found : Bool) → IsUnifiable m.state.store message c.first found → may_take m c message ≡ found

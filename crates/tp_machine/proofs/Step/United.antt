@@ -3,7 +3,7 @@ use Rattle.std.proofs.Common.{◌≡◌, ℕ, zero, suc, ◌+◌, ◌<◌, true,
 use Rattle.tp_terms.specs.declared.cells.Cell.{Cell}
 use Rattle.tp_terms.specs.declared.cells.Cell.TheVariants as cell
 use Rattle.tp_terms.specs.declared.cells.Ref.{Ref}
-use Rattle.tp_terms.specs.Term.{Name, Term, Int, Atom, term_size}
+use Rattle.tp_terms.specs.Term.{Name, Term, term_size}
 use Rattle.tp_terms.specs.Shown.{AreNamed, IsNamed, StandsBefore, shows, shown_from}
 use Rattle.tp_terms.proofs.Places.Shown.{AreNamed-push}
 use Rattle.tp_log.specs.declared.entry.Entry.{Entry}

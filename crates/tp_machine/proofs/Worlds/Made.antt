@@ -23,7 +23,6 @@ use Rattle.tp_meaning.specs.World as world
 use Rattle.tp_meaning.specs.World.{at_place, number_of}
 use Rattle.tp_meaning.proofs.ValidWorlds.Places.{all-append, all-weaker, length-at_place}
 use Rattle.tp_store.specs.Contents.{seen}
-use Rattle.tp_control.specs.declared.frames.Item.{Item}
 use Rattle.tp_control.specs.declared.frames.Item.TheVariants.{Goal}
 use Rattle.tp_state.specs.Acts.{made, new_proc}
 use Rattle.tp_state.specs.Plain.{Plain, box_of, item_of, items_of, process_of, processes_of, with_running, world_of}

@@ -1,47 +1,44 @@
-use Rattle.std.proofs.Common.{◌≡◌, ◌+◌, Some, ap, sym, subst, ◌∙◌}
+use Rattle.std.specs.List.{position_from}
+use Rattle.std.proofs.Common.{◌≡◌, ◌+◌, suc, drop, slice_index_or, ap, sym, subst, ◌∙◌, arith}
+use Rattle.std.proofs.lemmas.Option.{slice_get-get_or}
 use Rattle.tp_machine.specs.declared.machine.Machine.{Machine}
 use Rattle.tp_store.specs.Contents.{Contents}
-use Rattle.tp_machine.specs.Heads.{hits}
-use Rattle.tp_machine.specs.Meets.{found_from}
+use Rattle.tp_machine.specs.Trying.{hits_at}
 use Rattle.tp_machine.specs.Machine.{IsStanding}
 use Rattle.tp_machine.proofs.Meets.HeadsMet.{hit_here, hit_later}
 use Rattle.tp_machine.proofs.Step.First.{standing}
-use Rattle.tp_machine.proofs.Meets.Matched.{id_there, here_is, hit_is}
+use Rattle.tp_machine.proofs.Trying.Lists.{drop-here}
+use Rattle.tp_machine.proofs.Trying.Runs.{hit-at}
 use Rattle.tp_machine.proofs.machine.Machine.next_match.Goals as goal
-
-pub clause-clause-requires : goal.clause-clause-requires
-clause-clause-requires c =
-    let l = c.loop-k.self in
-    let is = subst IsStanding (sym c.loop-k.invariant.same) (standing c.args.self.now c.requires.machine) in
-    id_there l c.args.task c.args.call is c.places.result.now c.places.ensures c.loop-k.k c.id_at-id.result c.id_at-id.ensures
 
 pub returns-then-branch-clause-found : goal.returns-then-branch-clause-found
 returns-then-branch-clause-found c =
     let l = c.loop-k.self in
     let m = c.args.self.now in
-    let t = c.args.task in
-    let call = c.args.call in
+    let g = c.args.goal in
     let k = c.loop-k.k in
+    let ids = c.args.ids.now in
+    let id = slice_index_or ids k (record { at = 0 }) in
     let is = subst IsStanding (sym c.loop-k.invariant.same) (standing m c.requires.machine) in
-    let v = c.clause-clause.result in
-    let here = here_is l t call is c.places.result.now c.places.ensures k c.id_at-id.result c.id_at-id.ensures v c.clause-clause.ensures.view c.clause-clause.ensures.fits in
-    let hit = hit_is l t call is c.places.result.now c.places.ensures k c.id_at-id.result c.id_at-id.ensures v c.clause-clause.ensures.view c.clause-clause.ensures.fits _ c.in_ok-meets.field-0 c.cells.ensures.cells c.in_ok-meets.ensures.met in
-    subst (λ (x : Machine). Some k ≡ found_from x t call c.args.from) c.loop-k.invariant.same
-    (sym (hit_here (hits l.atoms l.state.store t.goal.at) k _ _ _ here (hit ∙ c.if-branch.true)) ∙ subst (λ (x : Machine). found_from x t call k ≡ found_from x t call c.args.from) (sym c.loop-k.invariant.same) c.loop-k.invariant.found)
+    let hit = hit-at l g is id c.clause-clause.result c.clause-clause.ensures.view c.clause-clause.ensures.fits _ c.in_ok-meets.field-0 c.cells.ensures.cells c.in_ok-meets.ensures.met in
+    sym (hit_here (hits_at m g) k (drop k ids) id (drop (suc k) ids) (drop-here k ids id (slice_get-get_or ids k (record { at = 0 }) (omega (arith, c.loop-k-test.true))))
+    (ap (λ (x : Machine). hits_at x g id) (sym c.loop-k.invariant.same) ∙ hit ∙ c.if-branch.true))
+    ∙ c.loop-k.invariant.found
 
 pub loop-k-preserved : goal.loop-k-preserved
 loop-k-preserved c =
     let l = c.loop-k.self in
     let m = c.args.self.now in
-    let t = c.args.task in
-    let call = c.args.call in
+    let g = c.args.goal in
     let k = c.loop-k.k in
+    let ids = c.args.ids.now in
+    let id = slice_index_or ids k (record { at = 0 }) in
     let is = subst IsStanding (sym c.loop-k.invariant.same) (standing m c.requires.machine) in
-    let v = c.clause-clause.result in
-    let here = here_is l t call is c.places.result.now c.places.ensures k c.id_at-id.result c.id_at-id.ensures v c.clause-clause.ensures.view c.clause-clause.ensures.fits in
-    let hit = hit_is l t call is c.places.result.now c.places.ensures k c.id_at-id.result c.id_at-id.ensures v c.clause-clause.ensures.view c.clause-clause.ensures.fits _ c.in_ok-meets.field-0 c.cells.ensures.cells c.in_ok-meets.ensures.met in
+    let hit = hit-at l g is id c.clause-clause.result c.clause-clause.ensures.view c.clause-clause.ensures.fits _ c.in_ok-meets.field-0 c.cells.ensures.cells c.in_ok-meets.ensures.met in
     record {
       same = ap (λ (s : Contents). record l { state = record l.state { store = s } }) c.in_ok-meets.ensures.same ∙ c.loop-k.invariant.same;
-      found = subst (λ (x : Machine). found_from x t call (k + 1) ≡ found_from x t call c.args.from) c.loop-k.invariant.same
-          (sym (hit_later (hits l.atoms l.state.store t.goal.at) k _ _ _ here (hit ∙ c.if-branch.false)) ∙ subst (λ (x : Machine). found_from x t call k ≡ found_from x t call c.args.from) (sym c.loop-k.invariant.same) c.loop-k.invariant.found);
+      found = ap (λ n. position_from (hits_at m g) (k + 1) (drop n ids)) (let z : k + 1 ≡ suc k = omega arith in z)
+          ∙ sym (hit_later (hits_at m g) k (drop k ids) id (drop (suc k) ids) (drop-here k ids id (slice_get-get_or ids k (record { at = 0 }) (omega (arith, c.loop-k-test.true))))
+          (ap (λ (x : Machine). hits_at x g id) (sym c.loop-k.invariant.same) ∙ hit ∙ c.if-branch.false))
+          ∙ c.loop-k.invariant.found;
     }
