@@ -4,3 +4,4 @@ pub mod Expected
 pub mod Written
 pub mod Printed
 pub mod StoreUnder
+pub mod Samples

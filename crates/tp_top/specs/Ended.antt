@@ -11,7 +11,9 @@ use Rattle.tp_top.specs.declared.program.Status.{Status}
 use Rattle.tp_top.specs.declared.program.Status.TheVariants.{Found, No, Raised}
 use Rattle.tp_top.specs.declared.program.Status.TheVariants.{Budget, Usage, Model, Goal}
 use Rattle.tp_top.specs.declared.program.Status.TheVariants.{Read, Write, Memory}
-use Rattle.tp_top.specs.Expected.{Request, request, Answer, expected, for_text, usage, read_fault}
+use Rattle.tp_top.specs.Expected.{Request, request, Answer, expected, for_text}
+use Rattle.tp_top.specs.Expected.{for_sample, usage, read_fault}
+use Rattle.tp_top.specs.Sample.{Source, HeldUnder, SampleOf}
 
 -- the number of a status
 abbrev pub number_of : Status → ℕ
@@ -44,13 +46,18 @@ pub record Run : Type 0 where
 
 -- ---- what is expected
 
--- the words are no request, or there is a model's text whose answer is expected
+-- the model is that of a sample, or there is a text of it whose answer is expected
+abbrev pub OfSource : List MeterKind → Source → Request → (Option Answer → Type 0) → Type 0
+OfSource kinds (HeldUnder name) r P = (text : List ℕ) × P (Some (for_text kinds text r))
+OfSource kinds (SampleOf n) r P = P (Some (for_sample kinds n r))
+
+-- the words are no request, or that holds of their request
 abbrev pub OfSomeText : List MeterKind → Option Request → (Option Answer → Type 0) → Type 0
 OfSomeText kinds None P = P (Some usage)
-OfSomeText kinds (Some r) P = (text : List ℕ) × P (Some (for_text kinds text r))
+OfSomeText kinds (Some r) P = OfSource kinds r.source r P
 
 -- What holds of the expected answer, with meters of these kinds. Where the shelf doesn't tell its
--- files, it is the answer for the text of some model.
+-- files, it is the answer for the text of some model, or for that of a sample.
 abbrev pub OfExpected :
     List MeterKind → List (List ℕ) → Option Files → (Option Answer → Type 0) → Type 0
 OfExpected kinds words None P = OfSomeText kinds (request words) P
@@ -69,10 +76,15 @@ CouldFail None name before after = Rose before after
 CouldFail (Some files) name before after =
     MatchOption (held_under files name) (Unit {0}) (λ _. Rose before after)
 
+-- a model that is held couldn't be read
+abbrev pub CouldFailAt : Source → Option Files → ℕ → ℕ → Type 0
+CouldFailAt (HeldUnder name) held before after = CouldFail held name before after
+CouldFailAt (SampleOf n) held before after = ⊥
+
 -- the words are a request whose model couldn't be read
 abbrev pub IsReadFault : Option Request → Option Files → ℕ → ℕ → Type 0
 IsReadFault None held before after = ⊥
-IsReadFault (Some r) held before after = CouldFail held r.model before after
+IsReadFault (Some r) held before after = CouldFailAt r.source held before after
 
 abbrev pub CouldNotRead : Run → Type 0
 CouldNotRead run = IsReadFault (request run.words) run.held run.reads_before run.reads_after
@@ -82,10 +94,16 @@ abbrev pub MayBeHeld : Option Files → List ℕ → Type 0
 MayBeHeld None name = Unit {0}
 MayBeHeld (Some files) name = IsSome (held_under files name)
 
--- the words are a request whose model was read, whole or in part, and no read failed
+-- the same of a model that needn't be read
+abbrev pub MayBeThere : Source → Option Files → Type 0
+MayBeThere (HeldUnder name) held = MayBeHeld held name
+MayBeThere (SampleOf n) held = Unit {0}
+
+-- the words are a request whose model was read, whole or in part, or is that of a sample, and no
+-- read failed
 abbrev pub WasRead : Option Request → Option Files → ℕ → ℕ → Type 0
 WasRead None held before after = ⊥
-WasRead (Some r) held before after = MayBeHeld held r.model × (after ≡ before)
+WasRead (Some r) held before after = MayBeThere r.source held × (after ≡ before)
 
 abbrev pub ReadModel : Run → Type 0
 ReadModel run = WasRead (request run.words) run.held run.reads_before run.reads_after
@@ -140,6 +158,17 @@ abbrev pub GaveAll : Run → Status → Option Answer → Type 0
 GaveAll run status None = GaveReadFault run status
 GaveAll run status (Some answer) = GaveAnswer run status answer
 
+-- ---- samples
+
+-- whether the words are a request for a sample
+abbrev pub is_sample : Source → Bool
+is_sample (HeldUnder name) = false
+is_sample (SampleOf n) = true
+
+abbrev pub asks_sample : Option Request → Bool
+asks_sample None = false
+asks_sample (Some r) = is_sample r.source
+
 -- ---- meters
 
 -- whether the words are a request that asks for meters
@@ -185,8 +214,8 @@ pub record Ended (run : Run) (status : Status) : Type 0 where
   pub read : status ≡ Read → CouldNotRead run × Wrote run read_fault
   -- Where it is a write fault, the count of faults of writing rose, and a prefix was written.
   pub write : status ≡ Write → Rose run.writes_before run.writes_after × IsCutShort run
-  -- Where memory was refused, the model was read without a fault, or nothing was done. No write
-  -- failed, and the expected text wasn't all written.
+  -- Where memory was refused, the model was read or made without a fault, or nothing was done. No
+  -- write failed, and the expected text wasn't all written.
   pub memory :
       status ≡ Memory →
       (ReadModel run ⊎ DidNothing run)

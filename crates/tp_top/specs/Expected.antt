@@ -1,11 +1,11 @@
 -- What a run answers and prints.
-use Rattle.std.specs.Prelude.{ℕ, Bool, List, ◌++◌, length, map, Option, Some, None, option_map}
+use Rattle.std.specs.Prelude.{ℕ, Bool, false, List, ◌++◌, length, map, Option, Some, None, option_map}
 use Rattle.std.specs.Prelude.{Result, Ok, Err, codes, decimal, encode_utf8_all}
 use Rattle.std.specs.Prelude.{if◌then◌else◌, nat_lt}
 use Rattle.tp_outside.specs.Files.{Files, held_under}
 use Rattle.tp_words.specs.Request as clap
 use Rattle.tp_words.specs.declared.Request as given
-use Rattle.tp_words.specs.declared.Request.TheVariants.{Run}
+use Rattle.tp_words.specs.declared.Request.TheVariants.{Run, Sample}
 use Rattle.tp_terms.specs.Term.{Name, Term}
 use Rattle.tp_terms.specs.declared.text.Named.{Named}
 use Rattle.tp_meaning.specs.World.{World}
@@ -23,27 +23,35 @@ use Rattle.tp_top.specs.declared.program.Status.{Status}
 use Rattle.tp_top.specs.declared.program.Status.TheVariants as status
 use Rattle.tp_top.specs.Metered.{printed_kinds}
 pub use Rattle.tp_top.specs.Report.{Answer}
-use Rattle.tp_top.specs.Report.{report}
+use Rattle.tp_top.specs.Sample.{Source, HeldUnder, SampleOf, reported, sample_text}
 
 -- ---- the words
 
--- what the words ask for: the names of the model and the goal's text in UTF-8, how many steps the
--- search may take, how many answers are wanted, and whether meters are printed
+-- what the words ask for: where the model comes from and the goal's text in UTF-8, how many steps
+-- the search may take, how many answers are wanted, and whether meters are printed
 pub record Request : Type 0 where
-  pub model : List ℕ
+  pub source : Source
   pub goal : List ℕ
   pub steps : ℕ
   pub answers : ℕ
   pub meters : Bool
 
--- the same of a request of the words, whose texts are lists of characters
+-- the same of a request of the words, whose texts are lists of characters; a sample has the goal
+-- `top` and one answer
 abbrev pub asked : given.Request → Request
 asked (Run model goal steps answers meters) = record {
-  model = encode_utf8_all model;
+  source = HeldUnder (encode_utf8_all model);
   goal = encode_utf8_all goal;
   steps = steps;
   answers = answers;
   meters = meters;
+}
+asked (Sample n steps) = record {
+  source = SampleOf n;
+  goal = codes "top";
+  steps = steps;
+  answers = 1;
+  meters = false;
 }
 
 -- the request that the words make
@@ -113,7 +121,8 @@ named_in = map (λ n. record { name = n.0; number = n.1 })
 abbrev pub for_found : List MeterKind → Model → Result Found goal.Refusal → Request → Answer
 for_found kinds m (Err refusal) r = goal_refused refusal
 for_found kinds m (Ok f) r =
-    report m.table (named_in f.named) (printed_kinds r.meters kinds) (found m f r.steps r.answers)
+    reported r.source m.table (named_in f.named) (printed_kinds r.meters kinds) (length m.clauses)
+    (found m f r.steps r.answers)
 
 -- the goal is read by the last table of operators of the model
 abbrev pub for_goal : List MeterKind → Model → Request → Answer
@@ -132,9 +141,17 @@ abbrev pub for_held : List MeterKind → Option (List ℕ) → Request → Optio
 for_held kinds None r = None
 for_held kinds (Some text) r = Some (for_text kinds text r)
 
--- the answer of a request over files, none where the model isn't held
+-- the answer of a request for the model of a sample
+unfoldable pub for_sample : List MeterKind → ℕ → Request → Answer
+for_sample kinds n r = for_model kinds (model (sample_text n)) r
+
+-- the answer of a request with this source over files, none where the model isn't held
+abbrev pub for_source : List MeterKind → Source → Request → Files → Option Answer
+for_source kinds (HeldUnder name) r files = for_held kinds (held_under files name) r
+for_source kinds (SampleOf n) r files = Some (for_sample kinds n r)
+
 abbrev pub expected_of : List MeterKind → Request → Files → Option Answer
-expected_of kinds r files = for_held kinds (held_under files r.model) r
+expected_of kinds r files = for_source kinds r.source r files
 
 -- the answer to words over files, with meters of these kinds
 abbrev pub expected : List MeterKind → List (List ℕ) → Files → Option Answer

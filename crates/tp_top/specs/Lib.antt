@@ -1,5 +1,6 @@
 pub mod Metered
 pub mod Report
+pub mod Sample
 pub mod Expected
 pub mod Written
 pub mod Ended

@@ -1,5 +1,5 @@
 -- The model that a base has, the goal that a read term is, and the lines of an engine's answer.
-use Rattle.std.specs.Prelude.{ℕ, List, [], ◌∷◌, ◌++◌, encode_utf8_all, map}
+use Rattle.std.specs.Prelude.{ℕ, List, [], ◌∷◌, ◌++◌, encode_utf8_all, length, map}
 use Rattle.tp_terms.specs.Term.{Name}
 use Rattle.tp_parse.specs.Ops.{table_of}
 use Rattle.tp_parse.specs.Texts.{Found}
@@ -16,9 +16,12 @@ use Rattle.tp_engine.specs.Told.{Told}
 use Rattle.tp_meters.specs.declared.MeterKind.{MeterKind}
 use Rattle.tp_report.specs.Report.{world_answer_text}
 use Rattle.tp_top.specs.declared.asked.Asked.{Asked}
+use Rattle.tp_top.specs.declared.asked.Source as declared
+use Rattle.tp_top.specs.declared.asked.Source.TheVariants as given
 use Rattle.tp_top.specs.Expected.{Answer, Request, for_found}
 use Rattle.tp_top.specs.Metered.{meter_lines}
 use Rattle.tp_top.specs.Report.{report}
+use Rattle.tp_top.specs.Sample.{HeldUnder, SampleOf, Source, reported, sample_report}
 
 -- the model that a store has, by these names
 abbrev pub model_in : List Name → Contents → Model
@@ -38,10 +41,15 @@ found_in names t = record {
 abbrev pub for_read : List MeterKind → Model → Found → Request → Answer
 for_read kinds m f r = for_found kinds m (with_body f (body f.term)) r
 
+-- a source whose name is lent
+abbrev pub source_in : declared.Source → Source
+source_in (given.Held name) = HeldUnder name.now
+source_in (given.Sample n) = SampleOf n
+
 -- a request whose texts are lent
 abbrev pub request_in : Asked → Request
 request_in a = record {
-  model = a.model.now;
+  source = source_in a.source;
   goal = a.goal.now;
   steps = a.steps;
   answers = a.answers;
@@ -65,3 +73,14 @@ shown_bytes kinds (a ∷ answers) = encode_utf8_all (shown kinds a) ++ shown_byt
 abbrev pub report_in : List MeterKind → Told → ℕ → ℕ → Answer
 report_in kinds t steps answers =
     report (table_of t.seen.ops) t.seen.named kinds (outcome_of t steps answers)
+
+-- what is printed of the same for a sample with so many processes
+abbrev pub sample_in : ℕ → Told → ℕ → ℕ → Answer
+sample_in n t steps answers =
+    sample_report (table_of t.seen.ops) n (length t.base) (outcome_of t steps answers)
+
+-- the same for either, by where the model comes from
+abbrev pub reported_in : Source → List MeterKind → Told → ℕ → ℕ → Answer
+reported_in source kinds t steps answers =
+    reported source (table_of t.seen.ops) t.seen.named kinds (length t.base)
+    (outcome_of t steps answers)

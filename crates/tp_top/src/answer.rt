@@ -4,26 +4,28 @@ ghost use Rattle.std.specs.Prelude.{◌≡◌, ◌<◌, ◌≤◌, length, Err, 
 ghost use Rattle.tp_outside.specs.Taken.{added};
 ghost use Rattle.tp_terms.specs.Shown.{AreNamed};
 ghost use Rattle.tp_engine.specs.Ended.{answers_of, outcome_of, Finds};
+ghost use Rattle.tp_clauses.specs.Model.{model};
 ghost use Rattle.tp_machine.specs.Program.{GoalFits};
 ghost use Rattle.tp_engine.specs.Told.{IsSame, MayRun};
 ghost use Rattle.tp_engine.specs.declared.phase.Phase.{Phase};
-ghost use Rattle.tp_top.specs.Expected.{for_goal, for_text};
+ghost use Rattle.tp_top.specs.Expected.{for_goal, for_model};
 ghost use Rattle.tp_top.specs.Metered.{MayCount, printed_kinds};
 ghost use Rattle.tp_top.specs.Report.{last_history};
-ghost use Rattle.tp_top.specs.Told.{for_read, found_in, model_in, report_in, request_in};
-ghost use Rattle.tp_top.specs.Told.{shown_bytes};
+ghost use Rattle.tp_top.specs.Told.{for_read, found_in, model_in, report_in, reported_in};
+ghost use Rattle.tp_top.specs.Told.{request_in, sample_in, shown_bytes, source_in};
 ghost use Rattle.tp_top.specs.Written.{Writes};
 
-use crate::asked::Asked;
+use crate::asked::{Asked, Source};
 use crate::lines::Printer;
 use crate::meters::Counting;
 use crate::program::Status;
 use crate::refusal::{cause_of, goal_refused, model_refused};
-use crate::report::{report, say_made};
+use crate::report::{Counted, report, sample_report, say_made};
+use crate::sample::Tally;
 use std::alloc::Global;
 use tp_clauses::{Base, Cause, LoadFault};
 use tp_engine::{AnswerFault, Ended, Engine, StartFault};
-use tp_outside::{LONGEST_TEXT, Sink};
+use tp_outside::Sink;
 use tp_parse::{ReadFault, ReadTerm, read_goal};
 use tp_terms::Atoms;
 
@@ -94,8 +96,8 @@ fn print_all<W: Sink, M: Counting>(
     }
 }
 
-/// The same over a sink and meters, for what a request asks.
-fn search<W: Sink, M: Counting>(
+/// The same over a sink and meters, for what a run asks.
+fn print_for<W: Sink, M: Counting>(
     alloc: Global,
     engine: &mut Engine<'_>,
     asked: Asked<'_>,
@@ -123,6 +125,69 @@ fn search<W: Sink, M: Counting>(
     print_all(engine, asked.steps, asked.answers, &mut printer)
 }
 
+/// Searches from the start that an engine stands at, and writes the counts of a sample with so many
+/// processes, whose model has so many clauses, and then the last line.
+fn count_for<W: Sink>(
+    alloc: Global,
+    engine: &mut Engine<'_>,
+    n: u64,
+    clauses: u64,
+    asked: Asked<'_>,
+    sink: &mut W,
+) -> Result<Status, AnswerFault>
+    requires run { MayRun engine.old.phase }
+    requires answers { 0 < asked.answers }
+    requires clauses { clauses ≡ length engine.old.base }
+    ensures never_falls { W.faults sink.old ≤ W.faults sink.new }
+    ensures wrote { Writes (sample_in n engine.old asked.entry.steps asked.entry.answers)
+        (W.faults sink.old) (W.faults sink.new) (W.taken sink.old) (W.taken sink.new) result }
+{
+    let mut tally = Tally { events: 0 };
+    match engine.run_to_end(asked.steps, asked.answers, &mut tally) {
+        Ok(ended) => {
+            let counted = Counted {
+                n,
+                clauses,
+                events: tally.events,
+            };
+            let made = sample_report(alloc, &engine.view(), &ended, counted);
+            say_made(sink, made)
+        }
+        Err(_) => Err(AnswerFault::NoMemory),
+    }
+}
+
+/// The same for what a request asks: a run's answers, or a sample's counts.
+fn search<W: Sink, M: Counting>(
+    alloc: Global,
+    engine: &mut Engine<'_>,
+    clauses: u64,
+    asked: Asked<'_>,
+    sink: &mut W,
+    meters: &mut M,
+) -> Result<Status, AnswerFault>
+    requires run { MayRun engine.old.phase }
+    requires answers { 0 < asked.answers }
+    requires clauses { clauses ≡ length engine.old.base }
+    ensures never_falls { W.faults sink.old ≤ W.faults sink.new }
+    ensures wrote { Writes
+        (reported_in (source_in asked.entry.source)
+        (printed_kinds asked.entry.meters (M.kinds meters.old))
+        engine.old asked.entry.steps asked.entry.answers)
+        (W.faults sink.old) (W.faults sink.new) (W.taken sink.old) (W.taken sink.new) result }
+    ensures kinds { M.kinds meters.new ≡ M.kinds meters.old }
+    ensures counted { MayCount result asked.entry.meters (M.kinds meters.old)
+        (reported_in (source_in asked.entry.source)
+        (printed_kinds asked.entry.meters (M.kinds meters.old))
+        engine.old asked.entry.steps asked.entry.answers).2
+        (M.numbers meters.old) (M.numbers meters.new) }
+{
+    match asked.source {
+        Source::Held(_) => print_for(alloc, engine, asked, sink, meters),
+        Source::Sample(n) => count_for(alloc, engine, n, clauses, asked, sink),
+    }
+}
+
 /// Answers a goal that was read, over a base.
 fn answer_read<W: Sink, M: Counting>(
     alloc: Global,
@@ -148,7 +213,7 @@ fn answer_read<W: Sink, M: Counting>(
         (M.numbers meters.old) (M.numbers meters.new) }
 {
     match Engine::new(alloc, base, atoms, goal) {
-        Ok(mut engine) => search(alloc, &mut engine, asked, sink, meters),
+        Ok(mut engine) => search(alloc, &mut engine, base.count(), asked, sink, meters),
         Err(StartFault::Body) => say_made(sink, goal_refused(alloc, goal.from, Cause::Body)),
         Err(StartFault::NoMemory) => Err(AnswerFault::NoMemory),
     }
@@ -198,15 +263,14 @@ pub fn answer<W: Sink, M: Counting>(
     sink: &mut W,
     meters: &mut M,
 ) -> Result<Status, AnswerFault>
-    requires text { length text.now ≤ LONGEST_TEXT }
     requires answers { 0 < asked.answers }
     ensures never_falls { W.faults sink.old ≤ W.faults sink.new }
     ensures wrote { Writes
-        (for_text (M.kinds meters.old) text.now (request_in asked.entry))
+        (for_model (M.kinds meters.old) (model text.now) (request_in asked.entry))
         (W.faults sink.old) (W.faults sink.new) (W.taken sink.old) (W.taken sink.new) result }
     ensures kinds { M.kinds meters.new ≡ M.kinds meters.old }
     ensures counted { MayCount result asked.entry.meters (M.kinds meters.old)
-        (for_text (M.kinds meters.old) text.now (request_in asked.entry)).2
+        (for_model (M.kinds meters.old) (model text.now) (request_in asked.entry)).2
         (M.numbers meters.old) (M.numbers meters.new) }
 {
     let Ok(mut atoms) = Atoms::start(alloc) else {

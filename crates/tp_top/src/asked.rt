@@ -6,11 +6,20 @@ ghost use Rattle.tp_top.specs.Told.{request_in};
 
 use tp_words::Request;
 
+/// Where the text of a model comes from.
+#[derive(Clone, Copy)]
+pub enum Source<'a> {
+    /// It is held under this name.
+    Held(&'a str),
+    /// It is that of a sample with so many processes.
+    Sample(u64),
+}
+
 /// What a request asks for, its texts lent.
 #[derive(Clone, Copy)]
 pub struct Asked<'a> {
-    /// The name that the model is held under.
-    pub model: &'a str,
+    /// Where the model comes from.
+    pub source: Source<'a>,
     /// The text of the goal.
     pub goal: &'a str,
     /// How many steps the search may take.
@@ -26,19 +35,27 @@ impl<'a> Asked<'a> {
     pub fn of(request: &'a Request) -> Asked<'a>
         ensures { request_in result ≡ asked_for request.now }
     {
-        let Request::Run {
-            model,
-            goal,
-            steps,
-            answers,
-            meters,
-        } = request;
-        Asked {
-            model: model.as_str(),
-            goal: goal.as_str(),
-            steps: *steps,
-            answers: *answers,
-            meters: *meters,
+        match request {
+            Request::Run {
+                model,
+                goal,
+                steps,
+                answers,
+                meters,
+            } => Asked {
+                source: Source::Held(model.as_str()),
+                goal: goal.as_str(),
+                steps: *steps,
+                answers: *answers,
+                meters: *meters,
+            },
+            Request::Sample { n, steps } => Asked {
+                source: Source::Sample(*n),
+                goal: "top",
+                steps: *steps,
+                answers: 1,
+                meters: false,
+            },
         }
     }
 }

@@ -9,5 +9,7 @@ mod meters;
 mod program;
 mod refusal;
 mod report;
+mod sample;
 
 pub use program::{Status, run};
+pub use sample::sample_text;

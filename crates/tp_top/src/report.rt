@@ -10,6 +10,7 @@ ghost use Rattle.tp_write.specs.Text.{text as term_text};
 ghost use Rattle.tp_top.specs.Report.{end_by, with_last};
 ghost use Rattle.tp_top.specs.Expected.{Answer, alone};
 ghost use Rattle.tp_top.specs.Replies.{counts_in, view_of};
+ghost use Rattle.tp_top.specs.Sample.{sample_line, with_line};
 ghost use Rattle.tp_top.specs.Written.{Writes};
 ghost use Rattle.tp_engine.specs.declared.answers.AnswerFault.{AnswerFault};
 
@@ -161,6 +162,41 @@ pub fn report(alloc: Global, view: &AnswerView<'_>, ended: &Ended) -> Result<Rep
 {
     let (status, end) = end_of_search(alloc, view, ended)?;
     let mut text = String::new(alloc);
+    end_text(&end, ended.steps, &mut text)?;
+    Ok(Reply::made(status, text))
+}
+
+/// What is counted of a sample.
+#[derive(Clone, Copy)]
+pub struct Counted {
+    /// How many processes it has.
+    pub n: u64,
+    /// How many clauses its model has.
+    pub clauses: u64,
+    /// How many events the last answer has.
+    pub events: u64,
+}
+
+/// The status of the search of a sample, with its line of counts and its last line.
+pub fn sample_report(
+    alloc: Global,
+    view: &AnswerView<'_>,
+    ended: &Ended,
+    counted: Counted,
+) -> Result<Reply, NoMemory>
+    requires sound { IsSound view.now }
+    requires raised { RaisedStands view.now ended.now.how }
+    ensures { IfOk result (λ reply. view_of reply ≡ with_line
+        (sample_line counted.n counted.clauses ended.now.found counted.events) ended.now.steps
+        (end_by (table_of view.now.ops) (counts_in ended.now)
+        (end_of view.now ended.now.how))) }
+{
+    let (status, end) = end_of_search(alloc, view, ended)?;
+    let Counted { n, clauses, events } = counted;
+    let answers = ended.found;
+    let mut text = format!(in alloc;
+        "sample {n}: clauses {clauses} answers {answers} events {events}\n"
+    )?;
     end_text(&end, ended.steps, &mut text)?;
     Ok(Reply::made(status, text))
 }

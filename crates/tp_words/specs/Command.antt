@@ -2,7 +2,7 @@
 use Rattle.std.specs.Prelude.{ℕ, true, List, [], ◌∷◌, map, Option, Some, None, codes, if◌then◌else◌}
 use Rattle.std.specs.Prelude.{String, string_bytes}
 use Rattle.std.specs.Global.{Global}
-use Rattle.clap.specs.Words.{App, Row, Rule, fault_of, matches_of, new_app, new_rule}
+use Rattle.clap.specs.Words.{App, Row, Rule, fault_of, matches_of, new_app, new_rule, with_rule}
 use Rattle.clap.specs.Simple.{on_top}
 use Rattle.clap.specs.Walk.{is_empty}
 use Rattle.clap.specs.declared.builder.action.ArgAction.TheVariants.{SetTrue}
@@ -15,14 +15,15 @@ use Rattle.tp_words.specs.declared.fault.WordsFault.TheVariants.{NoMemory, Usage
 abbrev pub named : List ℕ → Rule
 named name = record (new_rule name) { long = Some name }
 
--- the positional arguments MODEL and GOAL, the options `--steps` and `--answers`, each with one
--- value, and the flag `--meters`
+-- the positional arguments MODEL and GOAL, the options `--steps`, `--answers` and `--sample`, each
+-- with one value, and the flag `--meters`
 abbrev pub arguments : List Rule
 arguments =
     new_rule (codes "MODEL")
     ∷ new_rule (codes "GOAL")
     ∷ named (codes "steps")
     ∷ named (codes "answers")
+    ∷ named (codes "sample")
     ∷ record (named (codes "meters")) { action = Some SetTrue }
     ∷ []
 
@@ -34,6 +35,10 @@ bare = on_top (λ top. record top {
   disable_help_flag = true;
   disable_version_flag = true;
 }) (new_app (codes "tprolog"))
+
+-- the same with the positional arguments
+abbrev pub texts_added : App
+texts_added = with_rule (with_rule bare (new_rule (codes "MODEL"))) (new_rule (codes "GOAL"))
 
 -- the command with its arguments, of which none is required
 unfoldable pub command : App

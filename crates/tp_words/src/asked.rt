@@ -2,23 +2,39 @@
 
 ghost use Rattle.std.specs.Prelude.{◌≡◌, IfOk, option_map};
 ghost use Rattle.clap.specs.Words.{found_of, rows_of};
-ghost use Rattle.tp_words.specs.Asked.{asked_request, told};
-ghost use Rattle.tp_words.specs.Request.{is_true as is_true_of, request_from, request_of};
+ghost use Rattle.tp_words.specs.Asked.{asked_request, told, values_in};
+ghost use Rattle.tp_words.specs.Request.{given_of, is_true as is_true_of, request_from, request_of};
+ghost use Rattle.tp_words.specs.Request.{asks_run as asks_run_of, run_from, sample_from};
 
 use crate::Request;
-use crate::number::number_or;
+use crate::number::{number_in, number_or};
 use clap::ArgMatches;
 use std::alloc::{AllocError, Global};
 use tp_terms::Text;
 
-/// The parts of a request, lent from the words.
+/// A request whose texts are lent from the words.
 #[derive(Clone, Copy)]
-pub struct Asked<'a> {
-    model: &'a str,
-    goal: &'a str,
-    steps: u64,
-    answers: u64,
-    meters: bool,
+pub enum Asked<'a> {
+    /// To search for answers to a goal over a model.
+    Run {
+        /// The name that the model is held under.
+        model: &'a str,
+        /// The text of the goal.
+        goal: &'a str,
+        /// How many steps the search may take.
+        steps: u64,
+        /// How many answers are wanted.
+        answers: u64,
+        /// Whether meters are printed behind each answer.
+        meters: bool,
+    },
+    /// To search a model that is made from a number.
+    Sample {
+        /// How many processes the model has.
+        n: u64,
+        /// How many steps the search may take.
+        steps: u64,
+    },
 }
 
 impl Asked<'_> {
@@ -26,13 +42,22 @@ impl Asked<'_> {
     pub fn request(self, alloc: Global) -> Result<Request, AllocError>
         ensures { IfOk result (λ r. r ≡ asked_request self.entry) }
     {
-        Ok(Request::Run {
-            model: Text::new(String::from_str(alloc, self.model)?),
-            goal: Text::new(String::from_str(alloc, self.goal)?),
-            steps: self.steps,
-            answers: self.answers,
-            meters: self.meters,
-        })
+        match self {
+            Asked::Run {
+                model,
+                goal,
+                steps,
+                answers,
+                meters,
+            } => Ok(Request::Run {
+                model: Text::new(String::from_str(alloc, model)?),
+                goal: Text::new(String::from_str(alloc, goal)?),
+                steps,
+                answers,
+                meters,
+            }),
+            Asked::Sample { n, steps } => Ok(Request::Sample { n, steps }),
+        }
     }
 }
 
@@ -46,41 +71,91 @@ fn is_true(value: Option<&str>) -> bool
     }
 }
 
-/// What the values of the arguments ask for, where both texts are there and the numbers are in
-/// their ranges.
-fn parts_from<'a>(
+/// The first value of each argument.
+#[derive(Clone, Copy)]
+struct Values<'a> {
     model: Option<&'a str>,
     goal: Option<&'a str>,
-    steps: Option<&str>,
-    answers: Option<&str>,
-    meters: Option<&str>,
-) -> Option<Asked<'a>>
-    ensures { option_map asked_request result
-        ≡ request_from (told model.entry) (told goal.entry) (told steps.entry)
-        (told answers.entry) (told meters.entry) }
-{
-    let model = model?;
-    let goal = goal?;
-    let steps = number_or(steps, 1_000_000, 1_000_000_000)?;
-    let answers = number_or(answers, 1, 1_000_000)?;
-    Some(Asked {
-        model,
-        goal,
-        steps,
-        answers,
-        meters: is_true(meters),
-    })
+    steps: Option<&'a str>,
+    answers: Option<&'a str>,
+    meters: Option<&'a str>,
+    sample: Option<&'a str>,
+}
+
+impl<'a> Values<'a> {
+    /// The values that the matches have.
+    fn of(matches: &ArgMatches<'a>) -> Values<'a>
+        ensures { values_in result ≡ given_of (rows_of (found_of matches.now)) }
+    {
+        Values {
+            model: matches.get_str("MODEL"),
+            goal: matches.get_str("GOAL"),
+            steps: matches.get_str("steps"),
+            answers: matches.get_str("answers"),
+            meters: matches.get_str("meters"),
+            sample: matches.get_str("sample"),
+        }
+    }
+
+    /// The run that is asked for, where both texts are there and the numbers are in their ranges.
+    fn run(self) -> Option<Asked<'a>>
+        ensures { option_map asked_request result ≡ run_from (values_in self.entry) }
+    {
+        let Values {
+            model,
+            goal,
+            steps,
+            answers,
+            meters,
+            ..
+        } = self;
+        let model = model?;
+        let goal = goal?;
+        let steps = number_or(steps, 1_000_000, 1_000_000_000)?;
+        let answers = number_or(answers, 1, 1_000_000)?;
+        Some(Asked::Run {
+            model,
+            goal,
+            steps,
+            answers,
+            meters: is_true(meters),
+        })
+    }
+
+    /// Whether there is something that a run alone has.
+    fn asks_run(self) -> bool
+        ensures { result ≡ asks_run_of (values_in self.entry) }
+    {
+        self.model.is_some()
+            || self.goal.is_some()
+            || self.answers.is_some()
+            || is_true(self.meters)
+    }
+
+    /// The sample of so many processes that is asked for, where the numbers are in their ranges.
+    fn sample(self, n: &str) -> Option<Asked<'a>>
+        ensures { option_map asked_request result ≡ sample_from n.now (told self.entry.steps) }
+    {
+        let n = number_in(n, 1, 100_000)?;
+        let steps = number_or(self.steps, 1_000_000, 1_000_000_000)?;
+        Some(Asked::Sample { n, steps })
+    }
+
+    /// What the values ask for: a run, or a sample without anything that a run alone has.
+    fn parts(self) -> Option<Asked<'a>>
+        ensures { option_map asked_request result ≡ request_from (values_in self.entry) }
+    {
+        match self.sample {
+            None => self.run(),
+            Some(_) if self.asks_run() => None,
+            Some(n) => self.sample(n),
+        }
+    }
 }
 
 /// What the matches ask for.
 pub fn parts_of<'a>(matches: &ArgMatches<'a>) -> Option<Asked<'a>>
     ensures { option_map asked_request result ≡ request_of (rows_of (found_of matches.now)) }
 {
-    parts_from(
-        matches.get_str("MODEL"),
-        matches.get_str("GOAL"),
-        matches.get_str("steps"),
-        matches.get_str("answers"),
-        matches.get_str("meters"),
-    )
+    Values::of(matches).parts()
 }

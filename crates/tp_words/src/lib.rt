@@ -35,15 +35,24 @@ pub enum Request {
         /// Whether meters are printed behind each answer.
         meters: bool,
     },
+    /// To search the model of a sample, which is made from a number, and to count what is found.
+    Sample {
+        /// How many processes the model has, from 1 to 100,000.
+        n: u64,
+        /// How many steps the search may take, from 1 to 1,000,000,000.
+        steps: u64,
+    },
 }
 
-/// Reads the words behind the program's name: MODEL and GOAL, and the options `--steps N`,
-/// `--answers N` and `--meters`.
+/// Reads the words behind the program's name. A run has MODEL and GOAL, and may have the options
+/// `--steps N` and `--answers N` and the flag `--meters`. A sample has the option `--sample N`, and
+/// may have `--steps N`.
 ///
 /// # Errors
-/// `Usage` where the words are no request: the command doesn't take them, MODEL or GOAL isn't
-/// there, or a number isn't one or more ASCII digits with a value in its range. `NoMemory` where
-/// memory was refused.
+/// `Usage` where the words are no request: the command doesn't take them; neither are MODEL and
+/// GOAL both there, nor is `--sample`; MODEL, GOAL, `--answers` or `--meters` stands beside
+/// `--sample`; or a number isn't one or more ASCII digits with a value in its range. `NoMemory`
+/// where memory was refused.
 pub fn read_words(alloc: Global, words: &[String]) -> Result<Request, WordsFault>
     ensures ok { IfOk result (λ r. request (words_of words.now) ≡ Some r) }
     ensures usage { IsErrOf result WordsFault.Usage → request (words_of words.now) ≡ None }

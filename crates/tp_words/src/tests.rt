@@ -4,10 +4,11 @@ use crate::{Request, WordsFault, read_words};
 use std::alloc::Global;
 use std::test::Fail;
 
-/// The numbers of a request: the steps, the answers, and 1 where meters are asked for.
+/// The numbers of a request. Of a run these are the steps, the answers, and 1 where meters are
+/// asked for; of a sample the processes, the steps, and 2.
 type Numbers = Option<(u64, u64, u64)>;
 
-/// The numbers of the request that the words make, where its texts are `m` and `g`.
+/// The numbers of the request that the words make. Where it is a run, its texts are `m` and `g`.
 fn numbers_of(alloc: Global, words: &[&str]) -> Result<Numbers, Fail> {
     let mut given = Vec::new(alloc);
     for word in words {
@@ -28,6 +29,7 @@ fn numbers_of(alloc: Global, words: &[&str]) -> Result<Numbers, Fail> {
             }
             Ok(Some((steps, answers, u64::from(meters))))
         }
+        Ok(Request::Sample { n, steps }) => Ok(Some((n, steps, 2))),
         Err(WordsFault::Usage) => Ok(None),
         Err(WordsFault::NoMemory) => Err(Fail::new("memory was refused")),
     }
@@ -52,6 +54,12 @@ fn requests(rt: HostRuntime) -> Result<(), Fail> {
             (7, 2, 1),
         ),
         (["--steps", "1", "--", "m", "g"].as_slice(), (1, 1, 0)),
+        (["--sample", "5"].as_slice(), (5, 1_000_000, 2)),
+        (
+            ["--sample=100000", "--steps", "9"].as_slice(),
+            (100_000, 9, 2),
+        ),
+        (["--steps=1", "--sample", "001", "--"].as_slice(), (1, 1, 2)),
     ] {
         assert_eq!(rt; numbers_of(rt.alloc(), words)?, Some(wanted));
     }
@@ -80,6 +88,17 @@ const REFUSED: &[&[&str]] = &[
     &["m", "g", "-h"],
     &["m", "-g"],
     &["--", "m", "g", "--meters"],
+    &["--sample"],
+    &["--sample="],
+    &["--sample", "0"],
+    &["--sample", "100001"],
+    &["--sample", "+5"],
+    &["--sample", "5", "--sample", "5"],
+    &["--sample", "5", "--steps", "0"],
+    &["--sample", "5", "m"],
+    &["--sample", "5", "m", "g"],
+    &["--sample", "5", "--answers", "2"],
+    &["--sample", "5", "--meters"],
 ];
 
 #[test]

@@ -33,14 +33,17 @@ use Rattle.tp_clauses.specs.declared.fault.LoadFault.{LoadFault}
 use Rattle.tp_clauses.specs.declared.fault.LoadFault.TheVariants as loading
 use Rattle.tp_engine.specs.declared.run.Ended as engine
 use Rattle.tp_engine.specs.Ended.{Finds, answers_of, end_of, outcome_of}
+use Rattle.tp_engine.specs.Answers as engine-answers
 use Rattle.tp_engine.specs.Answers.{IsCutShort, Took, numbered}
+use Rattle.std.specs.List.{last_or}
+use Rattle.tp_meaning.specs.World.{Event}
 use Rattle.tp_machine.specs.Program.{goal_term}
 use Rattle.tp_engine.specs.Told.{IsSame, IsStarted, Told, world_in}
 use Rattle.tp_report.specs.declared.end.EndLine.{EndLine}
 use Rattle.tp_report.specs.declared.end.EndLine.TheVariants as last
 use Rattle.tp_top.specs.declared.program.Status.{Status}
 use Rattle.tp_top.specs.declared.program.Status.TheVariants as status
-use Rattle.tp_top.specs.Report.{Counts, counts_of, answers_text, end_by, with_last, report}
+use Rattle.tp_top.specs.Report.{Counts, counts_of, answers_text, end_by, last_history, with_last, report}
 use Rattle.tp_top.specs.Replies.{counts_in}
 use Rattle.tp_outside.specs.Taken.{added}
 use Rattle.tp_engine.specs.declared.answers.AnswerFault.{AnswerFault}
@@ -53,9 +56,10 @@ use Rattle.tp_meters.specs.declared.MeterKind.{MeterKind}
 use Rattle.tp_top.specs.Metered.{printed_kinds}
 use Rattle.tp_top.specs.Told.{found_in, for_read, model_in, shown_bytes}
 use Rattle.tp_top.specs.Written.{Writes, Writing}
-use Rattle.tp_top.specs.Told.{report_in}
-use Rattle.tp_top.proofs.Running.Written.{LeavesBy, Printed, TakesBy, last-numbered, later_writes, printed_parts, shown-answers}
-use Rattle.tp_top.specs.Expected.{Request, Answer, found, named_in, for_found, for_goal, for_model, for_text, usage, too_long, model_refused, goal_refused, cause_word}
+use Rattle.tp_top.specs.Told.{report_in, reported_in}
+use Rattle.tp_top.specs.Sample.{Source, HeldUnder, SampleOf, events_of, reported, sample_line, sample_report, sample_text, with_line}
+use Rattle.tp_top.proofs.Running.Written.{LeavesBy, Printed, TakesBy, histories, last-numbered, later_writes, printed_parts, shown-answers}
+use Rattle.tp_top.specs.Expected.{Request, Answer, found, named_in, for_found, for_goal, for_model, for_sample, for_text, usage, too_long, model_refused, goal_refused, cause_word}
 use Rattle.tp_machine.proofs.Worlds.Names.{base-later}
 
 -- ---- searches
@@ -65,6 +69,16 @@ report-closed : (ops : Table) (named : List Named) (kinds : List MeterKind) (o :
 report-closed ops named kinds o = by o.how
   where
     by : (e : End World Term) → report ops named kinds (closed (record o { how = e })) ≡ report ops named kinds (record o { how = e })
+    by (Fails s) = refl
+    by Stopped = refl
+    by (Raised t z) = refl
+    by Budget = refl
+
+reported-closed : (source : Source) (ops : Table) (named : List Named) (kinds : List MeterKind) (clauses : ℕ) (o : Outcome World Term) → reported source ops named kinds clauses (closed o) ≡ reported source ops named kinds clauses o
+reported-closed (HeldUnder name) ops named kinds clauses o = report-closed ops named kinds o
+reported-closed (SampleOf n) ops named kinds clauses o = by o.how
+  where
+    by : (e : End World Term) → sample_report ops n clauses (closed (record o { how = e })) ≡ sample_report ops n clauses (record o { how = e })
     by (Fails s) = refl
     by Stopped = refl
     by (Raised t z) = refl
@@ -102,6 +116,35 @@ searched_writes kinds old o t e f0 f1 f2 w0 w1 w2 res finds same f w h =
 pub report_bytes : (kinds : List MeterKind) (old : Told) (o : Outcome World Term) → (report (table_of old.seen.ops) old.seen.named kinds o).1 ≡ shown_bytes kinds (numbered old.seen.named old.seen.ops 0 o.answers) ++ encode_utf8_all (last_line (end_by (table_of old.seen.ops) (counts_of o) o.how).1 o.steps)
 report_bytes kinds old o = shown-answers kinds old.seen.ops old.seen.named 0 o.answers (last_line (end_by (table_of old.seen.ops) (counts_of o) o.how).1 o.steps)
 
+-- the tally of a run holds the number of events of its last answer
+pub tallied : {A : Type 0} (events : A → ℕ) (answers : List engine-answers.Answer) (before now : A)
+    → Took (λ old (a : engine-answers.Answer) new. events new ≡ length a.world.history) before answers now → events before ≡ 0
+    → events now ≡ events_of (last_or None (histories answers))
+tallied {A} events answers before now took none = go None answers before now none took
+  where
+    go : (last : Option (List Event)) (answers : List engine-answers.Answer) (before now : A) → events before ≡ events_of last
+        → Took (λ old (a : engine-answers.Answer) new. events new ≡ length a.world.history) before answers now → events now ≡ events_of (last_or last (histories answers))
+    go last [] before now is took = ap events took ∙ is
+    go last (a ∷ answers) before now is (at, h, rest) = go (Some a.world.history) answers at now h rest
+
+-- the counts of a search, and its last line
+pub counted_is : (n clauses events : ℕ) (old : Told) (o : Outcome World Term) (t : Told) (e : engine.Ended)
+    → Finds o t e → IsSame old t → clauses ≡ length old.base → events ≡ events_of (last_history o.answers)
+    → with_line (sample_line n clauses e.found events) e.steps (end_by (table_of t.seen.ops) (counts_in e) (end_of t.seen e.how))
+    ≡ sample_report (table_of old.seen.ops) n (length old.base) o
+counted_is n clauses events old o t e f same size count =
+    let end = end_by (table_of t.seen.ops) (counts_in e) (end_of t.seen e.how) in
+    ap (λ k. with_line (sample_line n k e.found events) e.steps end) size
+    ∙ ap (λ k. with_line (sample_line n (length old.base) k events) e.steps end) f.found
+    ∙ ap (λ k. with_line (sample_line n (length old.base) (length o.answers) k) e.steps end) count
+    ∙ ap (λ x. with_line (line_by o n old) e.steps (end_by (table_of x) (counts_in e) (end_of t.seen e.how))) same.ops
+    ∙ ap (λ c. with_line (line_by o n old) e.steps (end_by (table_of old.seen.ops) c (end_of t.seen e.how))) (counts-same t e o f)
+    ∙ ap (λ h. with_line (line_by o n old) e.steps (end_by (table_of old.seen.ops) (counts_of o) h)) f.how
+    ∙ ap (λ k. with_line (line_by o n old) k (end_by (table_of old.seen.ops) (counts_of o) o.how)) f.steps
+  where
+    line_by : Outcome World Term → ℕ → Told → List ℕ
+    line_by o n old = sample_line n (length old.base) (length o.answers) (events_of (last_history o.answers))
+
 -- ---- no text is empty
 
 line_some : (words : List ℕ) → 0 < length (line words)
@@ -133,6 +176,17 @@ report_some ops named kinds o =
     let all = ap length (encodes-append front end) ∙ length-append (encode_utf8_all front) (encode_utf8_all end) in
     omega (arith, all, last_some (end_by ops (counts_of o) o.how).1 o.steps)
 
+-- a line with the last line behind it
+with_line_some : (bytes : List ℕ) (steps : ℕ) (end : Status × EndLine) → 0 < length (with_line bytes steps end).1
+with_line_some bytes steps end = omega (arith, length-append bytes (encode_utf8_all (last_line end.1 steps)), last_some end.1 steps)
+
+pub counts_some : (ops : Table) (n clauses : ℕ) (o : Outcome World Term) → 0 < length (sample_report ops n clauses o).1
+counts_some ops n clauses o = with_line_some (sample_line n clauses (length o.answers) (events_of (last_history o.answers))) o.steps (end_by ops (counts_of o) o.how)
+
+reported_some : (source : Source) (ops : Table) (named : List Named) (kinds : List MeterKind) (clauses : ℕ) (o : Outcome World Term) → 0 < length (reported source ops named kinds clauses o).1
+reported_some (HeldUnder name) ops named kinds clauses o = report_some ops named kinds o
+reported_some (SampleOf n) ops named kinds clauses o = counts_some ops n clauses o
+
 -- what the search of an engine has written, by how its answers were taken
 pub search_printed : {A N M T : Type 0} (res : Result T AnswerFault) (before now : A) (sink : A → N) (meters : A → M) (see : A → Writing) (t : Told) (steps wanted : ℕ)
     → OnOk res (Took (TakesBy sink meters see) before (answers_of t steps wanted) now)
@@ -156,7 +210,7 @@ model_line_some x =
 
 found_some : (kinds : List MeterKind) (m : Model) (x : Result Found goal.Refusal) (r : Request) → 0 < length (for_found kinds m x r).1
 found_some kinds m (Err refused) r = goal_line_some refused
-found_some kinds m (Ok f) r = report_some m.table (named_in f.named) (printed_kinds r.meters kinds) (found m f r.steps r.answers)
+found_some kinds m (Ok f) r = reported_some r.source m.table (named_in f.named) (printed_kinds r.meters kinds) (length m.clauses) (found m f r.steps r.answers)
 
 pub goal_some : (kinds : List MeterKind) (m : Model) (r : Request) → 0 < length (for_goal kinds m r).1
 goal_some kinds m r = found_some kinds m (goal.goal_of m.table r.goal) r
@@ -164,12 +218,16 @@ goal_some kinds m r = found_some kinds m (goal.goal_of m.table r.goal) r
 pub read_some : (kinds : List MeterKind) (m : Model) (f : Found) (r : Request) → 0 < length (for_read kinds m f r).1
 read_some kinds m f r = found_some kinds m (with_body f (body f.term)) r
 
-model_some : (kinds : List MeterKind) (x : Result Model Refusal) (r : Request) → 0 < length (for_model kinds x r).1
+pub model_some : (kinds : List MeterKind) (x : Result Model Refusal) (r : Request) → 0 < length (for_model kinds x r).1
 model_some kinds (Err refused) r = model_line_some refused
 model_some kinds (Ok m) r = goal_some kinds m r
 
 pub usage_some : 0 < length usage.1
 usage_some = line_some (codes "usage: tprolog MODEL GOAL [options]")
+
+pub sample_some : (kinds : List MeterKind) (n : ℕ) (r : Request) → 0 < length (for_sample kinds n r).1
+unfolding for_sample
+sample_some kinds n r = model_some kinds (model (sample_text n)) r
 
 pub text_some : (kinds : List MeterKind) (text : List ℕ) (r : Request) → 0 < length (for_text kinds text r).1
 unfolding for_text
@@ -193,12 +251,14 @@ named-back [] = refl
 named-back (x ∷ xs) = ap (λ more. x ∷ more) (named-back xs)
 
 -- the answer to a goal that has a body
-pub read_answered : (kinds : List MeterKind) (names : List Name) (c : Contents) (g : ReadTerm) (t : Told) (r : Request) → IsStarted names c g t → IsTrue (is_some (body (goal_term names g))) → report (table_of t.seen.ops) t.seen.named (printed_kinds r.meters kinds) (outcome_of t r.steps r.answers) ≡ for_read kinds (model_in names c) (found_in names g) r
+pub read_answered : (kinds : List MeterKind) (names : List Name) (c : Contents) (g : ReadTerm) (t : Told) (r : Request) → IsStarted names c g t → IsTrue (is_some (body (goal_term names g))) → reported_in r.source (printed_kinds r.meters kinds) t r.steps r.answers ≡ for_read kinds (model_in names c) (found_in names g) r
 read_answered kinds names c g t r s has =
-    ap (λ ops. report (table_of ops) t.seen.named (printed_kinds r.meters kinds) (outcome_of t r.steps r.answers)) s.ops
-    ∙ ap (λ vs. report (table_of c.ops) vs (printed_kinds r.meters kinds) (outcome_of t r.steps r.answers)) (s.named ∙ sym (named-back g.named))
-    ∙ ap (report (table_of c.ops) (named_in (map named_of g.named)) (printed_kinds r.meters kinds)) (outcome_is names c g t r.steps r.answers s)
-    ∙ report-closed (table_of c.ops) (named_in (map named_of g.named)) (printed_kinds r.meters kinds) (found (model_in names c) (found_in names g) r.steps r.answers)
+    let printed = printed_kinds r.meters kinds in
+    ap (λ ops. reported r.source (table_of ops) t.seen.named printed (length t.base) (outcome_of t r.steps r.answers)) s.ops
+    ∙ ap (λ vs. reported r.source (table_of c.ops) vs printed (length t.base) (outcome_of t r.steps r.answers)) (s.named ∙ sym (named-back g.named))
+    ∙ ap (λ b. reported r.source (table_of c.ops) (named_in (map named_of g.named)) printed (length b) (outcome_of t r.steps r.answers)) s.base
+    ∙ ap (reported r.source (table_of c.ops) (named_in (map named_of g.named)) printed (length (base_of names c))) (outcome_is names c g t r.steps r.answers s)
+    ∙ reported-closed r.source (table_of c.ops) (named_in (map named_of g.named)) printed (length (base_of names c)) (found (model_in names c) (found_in names g) r.steps r.answers)
     ∙ by (body (goal_term names g)) has
   where
     by : (b : Option Term) → IsTrue (is_some b) → for_found kinds (model_in names c) (Ok (found_in names g)) r ≡ for_found kinds (model_in names c) (with_body (found_in names g) b) r
@@ -240,19 +300,24 @@ model_same names c m h =
     ap (λ b. record { clauses = b; table = table_of c.ops }) h.clauses ∙ ap (λ t. record { clauses = m.clauses; table = t }) h.table
 
 -- a text that isn't too long
-text_answered : (kinds : List MeterKind) (text : List ℕ) (r : Request) (x : Result Model Refusal) → length text ≤ 16777216 → model text ≡ x → for_model kinds x r ≡ for_text kinds text r
+pub text_answered : (kinds : List MeterKind) (text : List ℕ) (r : Request) (x : Result Model Refusal) → length text ≤ 16777216 → model text ≡ x → for_model kinds x r ≡ for_text kinds text r
 unfolding for_text
 text_answered kinds text r x short read =
     ap (λ m. for_model kinds m r) (sym read)
     ∙ ap (λ b. cond b too_long (for_model kinds (model text) r)) (sym (le-ltb 16777216 (length text) short))
 
 -- the answer over the base that was loaded
-pub base_answered : (kinds : List MeterKind) (text : List ℕ) (r : Request) (names : List Name) (c : Contents) (m : Model) → length text ≤ 16777216 → model text ≡ Ok m → Has names c m → for_goal kinds (model_in names c) r ≡ for_text kinds text r
-base_answered kinds text r names c m short is has = ap (λ x. for_goal kinds x r) (model_same names c m has) ∙ text_answered kinds text r (Ok m) short is
+pub base_answered : (kinds : List MeterKind) (text : List ℕ) (r : Request) (names : List Name) (c : Contents) (m : Model) → model text ≡ Ok m → Has names c m → for_goal kinds (model_in names c) r ≡ for_model kinds (model text) r
+base_answered kinds text r names c m is has = ap (λ x. for_goal kinds x r) (model_same names c m has) ∙ ap (λ x. for_model kinds x r) (sym is)
 
 -- the answer where there is none
-pub base_refused : (kinds : List MeterKind) (text : List ℕ) (r : Request) (refused : Refusal) → length text ≤ 16777216 → model text ≡ Err refused → model_refused refused ≡ for_text kinds text r
-base_refused kinds text r refused short is = text_answered kinds text r (Err refused) short is
+pub base_refused : (kinds : List MeterKind) (text : List ℕ) (r : Request) (refused : Refusal) → model text ≡ Err refused → model_refused refused ≡ for_model kinds (model text) r
+base_refused kinds text r refused is = ap (λ x. for_model kinds x r) (sym is)
+
+-- the answer for the model of a sample
+pub sample_answered : (kinds : List MeterKind) (text : List ℕ) (n : ℕ) (r : Request) → text ≡ sample_text n → for_model kinds (model text) r ≡ for_sample kinds n r
+unfolding for_sample
+sample_answered kinds text n r is = ap (λ t. for_model kinds (model t) r) is
 
 pub long_answered : (kinds : List MeterKind) (text : List ℕ) (r : Request) → 16777216 < length text → for_text kinds text r ≡ too_long
 unfolding for_text
@@ -280,12 +345,23 @@ end_of_text ops c Budget = tt
 
 found_of_text : (kinds : List MeterKind) (m : Model) (x : Result Found goal.Refusal) (r : Request) → IsOfText (for_found kinds m x r).0
 found_of_text kinds m (Err refused) r = tt
-found_of_text kinds m (Ok f) r = let o = found m f r.steps r.answers in end_of_text m.table (counts_of o) o.how
+found_of_text kinds m (Ok f) r = by r.source
+  where
+    o : Outcome World Term
+    o = found m f r.steps r.answers
+
+    by : (source : Source) → IsOfText (reported source m.table (named_in f.named) (printed_kinds r.meters kinds) (length m.clauses) o).0
+    by (HeldUnder name) = end_of_text m.table (counts_of o) o.how
+    by (SampleOf n) = end_of_text m.table (counts_of o) o.how
 
 model_of_text : (kinds : List MeterKind) (x : Result Model Refusal) (r : Request) → IsOfText (for_model kinds x r).0
 unfolding goal.goal_of
 model_of_text kinds (Err refused) r = tt
 model_of_text kinds (Ok m) r = found_of_text kinds m (goal.goal_of m.table r.goal) r
+
+pub of_sample : (kinds : List MeterKind) (n : ℕ) (r : Request) → IsOfText (for_sample kinds n r).0
+unfolding for_sample
+of_sample kinds n r = model_of_text kinds (model (sample_text n)) r
 
 pub of_text : (kinds : List MeterKind) (text : List ℕ) (r : Request) → IsOfText (for_text kinds text r).0
 unfolding for_text

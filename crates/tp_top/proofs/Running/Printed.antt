@@ -1,7 +1,7 @@
 -- Lines that are printed in one piece.
-use Rattle.std.proofs.Common.{None, ◌≡◌, ℕ, List, ◌++◌, append_assoc, chars, string_bytes, String, Global, sym, ap, ◌∙◌}
+use Rattle.std.proofs.Common.{None, ◌≡◌, ℕ, List, ◌++◌, append_assoc, chars, string_bytes, String, Global, encode_utf8_all, refl, sym, ap, ◌∙◌}
 use Rattle.std.specs.Prelude.{codes, decimal}
-use Rattle.std.proofs.lemmas.Str.{IsUtf8-string_bytes}
+use Rattle.std.proofs.lemmas.Str.{IsUtf8-string_bytes, encodes-append}
 use Rattle.tp_terms.proofs.Texts.Equal.{bytes-chars}
 use Rattle.tp_clauses.specs.Model.{refusal}
 use Rattle.tp_clauses.specs.declared.fault.Cause.{Cause}
@@ -11,6 +11,7 @@ use Rattle.tp_top.specs.declared.program.Status.{Status}
 use Rattle.tp_top.specs.declared.program.Status.TheVariants as status
 use Rattle.tp_top.specs.Expected.{alone, cause_word, goal_refused, model_refused}
 use Rattle.tp_top.specs.Report.{with_last}
+use Rattle.tp_top.specs.Sample.{with_line}
 
 four_pieces : (a b c d e : List ℕ) → a ++ (b ++ (c ++ (d ++ e))) ≡ (a ++ (b ++ (c ++ d))) ++ e
 four_pieces a b c d e =
@@ -35,3 +36,14 @@ model-line text word clause byte cause e is =
 pub reply-whole : (status : Status) (out : String Global) (begun : List ℕ) (steps : ℕ) (end : EndLine) (whole : Status × EndLine) → (let pair : Status × EndLine = (status, end) in pair ≡ whole) → chars (string_bytes out) ≡ begun ++ last_line end steps → alone status (string_bytes out) ≡ with_last begun steps whole None
 reply-whole status out begun steps end whole is e =
     ap (alone status) (bytes-chars (string_bytes out) (begun ++ last_line end steps) (IsUtf8-string_bytes out) e) ∙ ap (λ w. with_last begun steps w None) is
+
+-- the bytes of a line with a last line behind it
+pub counts-whole : (status : Status) (begun out : String Global) (bytes : List ℕ) (steps : ℕ) (end : EndLine) (whole : Status × EndLine)
+    → (let pair : Status × EndLine = (status, end) in pair ≡ whole) → string_bytes begun ≡ bytes
+    → chars (string_bytes out) ≡ chars (string_bytes begun) ++ last_line end steps → alone status (string_bytes out) ≡ with_line bytes steps whole
+counts-whole status begun out bytes steps end whole is same added =
+    ap (alone status)
+    (bytes-chars (string_bytes out) (chars (string_bytes begun) ++ last_line end steps) (IsUtf8-string_bytes out) added
+    ∙ encodes-append (chars (string_bytes begun)) (last_line end steps)
+    ∙ ap (λ b. b ++ encode_utf8_all (last_line end steps)) (sym (bytes-chars (string_bytes begun) (chars (string_bytes begun)) (IsUtf8-string_bytes begun) refl) ∙ same))
+    ∙ ap (λ w. with_line bytes steps w) is

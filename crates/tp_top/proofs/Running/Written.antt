@@ -35,9 +35,6 @@ added_two (Some t) a b = ap Some (append_assoc t a b)
 pub less_of_none : (old now : Option (List ℕ)) (text : List ℕ) → now ≡ old → 0 < length text → HasLess old now text
 less_of_none old now text same some = (0, some, same ∙ sym (added_none old))
 
-pub prefix_of_none : (old now : Option (List ℕ)) (text : List ℕ) → now ≡ old → HasPrefix old now text
-prefix_of_none old now text same = (0, omega arith, same ∙ sym (added_none old))
-
 later_prefix : (old now : Option (List ℕ)) (a b : List ℕ) → HasPrefix (added old a) now b → HasPrefix old now (a ++ b)
 later_prefix old now a b (n, le, is) =
     (length a + n, omega (arith, le, length-append a b), is ∙ added_two old a (take n b) ∙ ap (added old) (sym (take-append-add a b n)))

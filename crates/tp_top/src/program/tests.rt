@@ -3,6 +3,7 @@ ghost use Rattle.std.specs.Prelude.{◌<◌};
 
 use crate::boxed::take_all;
 use crate::program::{Status, run};
+use crate::sample::sample_text;
 use std::alloc::{AllocError, Global};
 use std::test::Fail;
 use tp_meters::{EventMeter, EventView, MailMeter, Meter, ProcMeter, TimeMeter};
@@ -337,4 +338,45 @@ fn numbers_the_statuses(rt: HostRuntime) {
     ] {
         assert_eq!(rt; status.number(), number);
     }
+}
+
+/// The model of a sample with one process.
+const SAMPLE: &str = "top :- first.\ntop.\nfirst :- s1, hold(1), !, fail.\n\
+    s1 :- c(_), new(w,p1,0,inf).\nc(1).\nc(2).\nw :- hold(2).\n";
+
+/// The model of a sample with two processes.
+const PAIR: &str = "top :- first.\ntop.\nfirst :- s1, hold(1), !, fail.\n\
+    s1 :- c(_), new(w,p1,0,inf), s2.\ns2 :- c(_), new(w,p2,0,inf).\n\
+    c(1).\nc(2).\nw :- hold(2).\n";
+
+#[test]
+fn sample_texts(rt: HostRuntime) -> Result<(), Fail> {
+    for (n, wanted) in [(1, SAMPLE), (2, PAIR)] {
+        assert_eq!(rt; sample_text(rt.alloc(), n)?.as_str(), wanted);
+    }
+    Ok(())
+}
+
+#[test]
+fn samples(rt: HostRuntime) -> Result<(), Fail> {
+    for (words, status, text) in [
+        (
+            ["--sample", "1"].as_slice(),
+            Status::Found,
+            "sample 1: clauses 7 answers 1 events 2\nstopped after 20 steps\n",
+        ),
+        (
+            ["--sample", "1", "--steps", "19"].as_slice(),
+            Status::Budget,
+            "sample 1: clauses 7 answers 0 events 0\nbudget after 19 steps\n",
+        ),
+        (["--sample", "0"].as_slice(), Status::Usage, USAGE),
+    ] {
+        let left = run_over(rt.alloc(), words, P, SECOND, SMOOTH)?;
+        assert_eq!(rt; left.status, status);
+        assert_eq!(rt; left.taken.as_slice(), text.as_bytes());
+        assert_eq!(rt; left.read_faults, 0);
+        assert_eq!(rt; left.write_faults, 0);
+    }
+    Ok(())
 }

@@ -10,12 +10,12 @@ use Rattle.clap.specs.declared.parser.matches.ArgMatches.{ArgMatches}
 use Rattle.clap.specs.declared.builder.action.ArgAction.TheVariants.{SetTrue}
 use Rattle.clap.proofs.OnLiterals.{clap_on_literals}
 use Rattle.std.specs.Prelude.{codes}
-use Rattle.tp_words.specs.Command.{bare, command, fault_by, matches, named}
+use Rattle.tp_words.specs.Command.{bare, command, fault_by, matches, named, texts_added}
 use Rattle.tp_words.specs.declared.fault.WordsFault.{WordsFault}
 use Rattle.tp_words.specs.declared.fault.WordsFault.TheVariants.{NoMemory, Usage}
 
 -- the arguments, added in turn
-pub added_in_turn : with_rule (with_rule (with_rule (with_rule (with_rule bare (new_rule (codes "MODEL"))) (new_rule (codes "GOAL"))) (named (codes "steps"))) (named (codes "answers"))) (record (named (codes "meters")) { action = Some SetTrue }) ≡ command
+pub added_in_turn : with_rule (with_rule (with_rule (with_rule texts_added (named (codes "steps"))) (named (codes "answers"))) (named (codes "sample"))) (record (named (codes "meters")) { action = Some SetTrue }) ≡ command
 unfolding command
 added_in_turn = refl
 

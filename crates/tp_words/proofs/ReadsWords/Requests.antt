@@ -6,13 +6,13 @@ use Rattle.clap.specs.declared.parser.matches.Found.{Found}
 use Rattle.clap.proofs.WalkLemmas.{first_value-rows}
 use Rattle.tp_words.specs.Asked.{told}
 use Rattle.tp_words.specs.Command.{matches}
-use Rattle.tp_words.specs.Request.{is_true, request, request_from, request_of}
+use Rattle.tp_words.specs.Request.{Given, asks_run, is_true, request, request_from, request_of, run_from, sample_from}
 use Rattle.std.specs.Prelude.{Bool, nat_le, ◌&&◌, if◌then◌else◌, chars, codes, option_map}
 use Rattle.std.proofs.Common.{true, false, ◌<◌, arith, leb-true, subst, refl}
 use Rattle.std.specs.Str.Parse.{digits_value}
-use Rattle.tp_words.specs.Number.{is_numeral, number_or, within}
+use Rattle.tp_words.specs.Number.{is_numeral, number_between, number_or, within}
 use Rattle.tp_words.specs.declared.Request.{Request}
-use Rattle.tp_words.specs.declared.Request.TheVariants.{Run}
+use Rattle.tp_words.specs.declared.Request.TheVariants.{Run, Sample}
 
 -- the words have the request of their matches, or none
 pub matched_request : (words : List (List ℕ)) (rows : List Row) (r : Option Request)
@@ -24,20 +24,24 @@ pub unmatched_request : (words : List (List ℕ)) → matches words ≡ None →
 unfolding request
 unmatched_request words is = ap (option_and_then request_of) is
 
+abbrev given : Option (List ℕ) → Option (List ℕ) → Option (List ℕ) → Option (List ℕ) → Option (List ℕ) → Option (List ℕ) → Given
+given a b c d e f = record { model = a; goal = b; steps = c; answers = d; meters = e; sample = f }
+
 -- what `get_str` tells is the first value in the rows
 pub told_first : (f : Found) (id : List ℕ) (r : Option (Bor (List ℕ)))
     → told r ≡ first_value f id → told r ≡ first_of id (rows_of f)
 told_first f id r is = is ∙ first_value-rows f id
 
--- equal values make equal requests
-pub same_parts : {a b c d e a' b' c' d' e' : Option (List ℕ)}
-    → a ≡ a' → b ≡ b' → c ≡ c' → d ≡ d' → e ≡ e' → request_from a b c d e ≡ request_from a' b' c' d' e'
-same_parts p q r s t =
-    ap₂ (λ f x. f x) (ap₂ (λ f x. f x) (ap₂ (λ f x. f x) (ap₂ request_from p q) r) s) t
+-- equal values, each for itself
+pub same_given : {a b c d e f a' b' c' d' e' f' : Option (List ℕ)}
+    → a ≡ a' → b ≡ b' → c ≡ c' → d ≡ d' → e ≡ e' → f ≡ f' → given a b c d e f ≡ given a' b' c' d' e' f'
+same_given p q r s t u =
+    ap₂ (λ f x. f x) (ap₂ (λ f x. f x) (ap₂ (λ f x. f x) (ap₂ (λ f x. f x) (ap₂ given p q) r) s) t) u
 
 -- how many answers a request asks for
 abbrev pub answers_in : Request → ℕ
 answers_in (Run model goal steps answers meters) = answers
+answers_in (Sample n steps) = 1
 
 number_some : (default most : ℕ) (value : Option (List ℕ)) (n : ℕ) → 0 < default
     → number_or default most value ≡ Some n → 0 < n
@@ -71,13 +75,31 @@ answers_some words r = by (matches words)
     stepped model goal meters value None e = absurd (cc)
     stepped model goal meters value (Some steps) e = counted model goal steps meters value (number_or 1 1000000 value) refl e
 
-    from : (model goal steps answers meters : Option (List ℕ)) → request_from model goal steps answers meters ≡ Some r → 0 < answers_in r
-    from None goal steps answers meters e = absurd (cc)
-    from (Some model) None steps answers meters e = absurd (cc)
-    from (Some model) (Some goal) steps answers meters e = stepped model goal (is_true meters) answers (number_or 1000000 1000000000 steps) e
+    run : (model goal steps answers meters sample : Option (List ℕ)) → run_from (given model goal steps answers meters sample) ≡ Some r → 0 < answers_in r
+    run None goal steps answers meters sample e = absurd (cc)
+    run (Some model) None steps answers meters sample e = absurd (cc)
+    run (Some model) (Some goal) steps answers meters sample e = stepped model goal (is_true meters) answers (number_or 1000000 1000000000 steps) e
+
+    sampled : (n : ℕ) (steps : Option ℕ) → option_map (λ steps. Sample n steps) steps ≡ Some r → 0 < answers_in r
+    sampled n None e = absurd (cc)
+    sampled n (Some steps) e =
+        let same : Sample n steps ≡ r = cc in
+        subst (λ x. 0 < answers_in x) same (omega arith)
+
+    sample : (n : Option ℕ) (steps : Option ℕ) → option_and_then (λ n. option_map (λ steps. Sample n steps) steps) n ≡ Some r → 0 < answers_in r
+    sample None steps e = absurd (cc)
+    sample (Some n) steps e = sampled n steps e
+
+    bare : (b : Bool) (n : List ℕ) (steps : Option (List ℕ)) → (if b then None else sample_from n steps) ≡ Some r → 0 < answers_in r
+    bare true n steps e = absurd (cc)
+    bare false n steps e = sample (number_between 1 100000 n) (number_or 1000000 1000000000 steps) e
+
+    from : (model goal steps answers meters sample : Option (List ℕ)) → request_from (given model goal steps answers meters sample) ≡ Some r → 0 < answers_in r
+    from model goal steps answers meters None e = run model goal steps answers meters None e
+    from model goal steps answers meters (Some n) e = bare (asks_run (given model goal steps answers meters (Some n))) n steps e
 
     by : (rows : Option (List Row)) → option_and_then request_of rows ≡ Some r → 0 < answers_in r
     by None e = absurd (cc)
     by (Some rows) e =
         from (first_of (codes "MODEL") rows) (first_of (codes "GOAL") rows) (first_of (codes "steps") rows)
-        (first_of (codes "answers") rows) (first_of (codes "meters") rows) e
+        (first_of (codes "answers") rows) (first_of (codes "meters") rows) (first_of (codes "sample") rows) e
