@@ -95,7 +95,7 @@ pub fn operations(name: AtomId) -> (Option<UnaryOperation>, Option<BinaryOperati
     if name.at < PLUS.at {
         return (None, None);
     }
-    let place = name.at - PLUS.at;
+    let place = (name.at - PLUS.at) as usize;
     if place >= OPERATIONS.len() {
         return (None, None);
     }

@@ -210,7 +210,7 @@ pub fn goal_kind(name: AtomId, count: u8) -> Option<GoalKind>
     if name.at < TRUE.at {
         return None;
     }
-    let place = name.at - TRUE.at;
+    let place = (name.at - TRUE.at) as usize;
     if place >= GOALS.len() {
         return None;
     }

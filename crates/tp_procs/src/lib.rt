@@ -75,7 +75,7 @@ impl Procs {
     pub fn by_name(&self, name: AtomId) -> Option<usize>
         ensures { result ≡ named name self.now }
     {
-        self.names.get_index_of(&name.at)
+        self.names.get_index_of(&(name.at as usize))
     }
 
     /// The first process that is marked. There is none exactly where none is.
@@ -120,7 +120,7 @@ impl Procs {
         log.push(Entry::Made)?;
         self.procs.push_reserved(proc);
         self.nodes.push_reserved(NOTHING);
-        let _ = self.names.insert(proc.name.at);
+        let _ = self.names.insert(proc.name.at as usize);
         mend(&self.procs, &mut self.nodes, pid);
         self.live += live_in(&proc);
         Ok(pid)

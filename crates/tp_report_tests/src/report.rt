@@ -53,7 +53,7 @@ fn stands(event: &Event, names: usize, cells: usize, processes: usize) -> bool
 {
     event.pid < processes
         && match event.kind {
-            EventKind::New { name, .. } => name.at < names,
+            EventKind::New { name, .. } => (name.at as usize) < names,
             EventKind::Send { message, to } => message.at < cells && to < processes,
             EventKind::Take(term) => term.at < cells,
             EventKind::Note(term) => term.at < cells,
@@ -98,7 +98,7 @@ fn are_names(names: &[AtomId], atoms: &Atoms) -> bool
     ensures { result ≡ true → AllByRecursion (λ a. a.at < length atoms.now) names.now }
 {
     for name in names {
-        if name.at >= atoms.len() {
+        if name.at as usize >= atoms.len() {
             return false;
         }
     }

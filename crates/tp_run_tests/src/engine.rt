@@ -121,7 +121,7 @@ fn is_main_alone(view: &AnswerView<'_>) -> bool {
         return false;
     }
     let name = view.process_name(0);
-    name.at < view.atoms().len() && view.atoms().name(name) == "main"
+    (name.at as usize) < view.atoms().len() && view.atoms().name(name) == "main"
 }
 
 /// Whether the second answer over two facts is seen.

@@ -58,10 +58,10 @@ fn is_ready(cell: Cell, atoms: &Atoms, cells: &Cells) -> bool
     ensures named { result ≡ true → IsNamed (length atoms.now) cell }
 {
     match cell {
-        Cell::Atom(name) => name.at < atoms.len(),
+        Cell::Atom(name) => (name.at as usize) < atoms.len(),
         Cell::Comp { name, first, count } => {
             let len = cells.len();
-            name.at < atoms.len()
+            (name.at as usize) < atoms.len()
                 && count > 0
                 && first.at <= len
                 && count as usize <= len - first.at

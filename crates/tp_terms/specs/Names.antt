@@ -1,5 +1,5 @@
 -- Tables of names.
-use Rattle.std.specs.Prelude.{◌≡◌, ℕ, true, List, [], ◌∷◌, ◌++◌, Some, length, take, map, fold, slice_get, chars, if◌then◌else◌, string_bytes}
+use Rattle.std.specs.Prelude.{◌≡◌, ◌≤◌, ◌^◌, ℕ, true, List, [], ◌∷◌, ◌++◌, Some, length, take, map, fold, slice_get, chars, if◌then◌else◌, string_bytes}
 use Rattle.std.specs.List.{list_any}
 use Rattle.std.specs.Str.{all_scalars}
 use Rattle.std.specs.declared.alloc.Global.{Global}
@@ -34,6 +34,10 @@ pub record IsTable (names : List Name) : Type 0 where
   pub begins : take (length start_names) names ≡ start_names
   pub distinct : AreDistinct names
   pub texts : AreTexts names
+
+-- the place of each of these names fits in an atom
+abbrev pub HasFew : List (String Global) → Type 0
+HasFew names = length names ≤ 2 ^ 32
 
 -- a name is in the table, at this place
 abbrev pub StandsAt : List Name → ℕ → Name → Type 0

@@ -2,7 +2,7 @@
 
 ghost use Rattle.std.specs.Prelude.{◌≡◌, ℕ, ◌<◌, length, slice_get, map, chars, encode_utf8_all, IsOk, IsOkAnd, IfOk, OnOk, OnErr};
 ghost use Rattle.tp_terms.specs.Shown.{name_at};
-ghost use Rattle.tp_terms.specs.Names.{names_of, with_name, with_names, IsTable, StandsAt, Grows};
+ghost use Rattle.tp_terms.specs.Names.{names_of, with_name, with_names, HasFew, IsTable, StandsAt, Grows};
 ghost use Rattle.tp_terms.specs.StartNames.{start_names};
 
 use crate::NoMemory;
@@ -11,6 +11,9 @@ use crate::symbols::START_NAMES;
 use indexmap::IndexSet;
 use std::alloc::Global;
 use std::marker::Model;
+
+/// The most names that a table has: the place of each fits in an atom.
+const MOST_NAMES: usize = 4_294_967_296;
 
 /// Names, each at one place. A name keeps its place for ever.
 #[derive(Drop)]
@@ -24,11 +27,11 @@ impl Model for Atoms {
 
     ghost Value = { List Name };
 
-    ghost use Rattle.tp_terms.specs.Names.{names_of, IsTable};
+    ghost use Rattle.tp_terms.specs.Names.{names_of, HasFew, IsTable};
 
     ghost view = { λ a. names_of a.names.keys };
 
-    ghost invariant = { λ a. IsTable (names_of a.names.keys) };
+    ghost invariant = { λ a. IsTable (names_of a.names.keys) × HasFew a.names.keys };
 }
 
 impl Atoms {
@@ -49,7 +52,8 @@ impl Atoms {
     /// there takes no memory.
     ///
     /// # Errors
-    /// `NoMemory` where memory for a new name was refused, and then the table is as before.
+    /// `NoMemory` where memory for a new name was refused, or where the table has 2^32 names, and
+    /// then the table is as before.
     pub fn intern(&mut self, name: &str) -> Result<AtomId, NoMemory>
         ensures place { IfOk result (λ atom. StandsAt self.new atom.at (chars name.now)) }
         ensures names { OnOk result (self.new ≡ with_name self.old (chars name.now)) }
@@ -64,8 +68,8 @@ impl Atoms {
             IsOkAnd result (λ atom. atom.at ≡ at) }
         ensures stays { (at : ℕ) → StandsAt self.old at (chars name.now) → self.new ≡ self.old }
     {
-        let at = find_or_add(&mut self.names, name)?;
-        Ok(AtomId { at })
+        let atom = find_or_add(&mut self.names, name)?;
+        Ok(atom)
     }
 
     /// The name of an atom. Takes no memory.
@@ -75,7 +79,7 @@ impl Atoms {
         ensures bytes { result.now ≡ encode_utf8_all (name_at self.now atom.at) }
         ensures table { IsTable self.now }
     {
-        self.names[atom.at].as_str()
+        self.names[atom.at as usize].as_str()
     }
 
     /// The number of names. Takes no memory.
@@ -88,8 +92,11 @@ impl Atoms {
 }
 
 /// The place of a name, which is added behind the others where it isn't there.
-fn find_or_add(names: &mut IndexSet<String>, name: &str) -> Result<usize, NoMemory>
-    ensures place { IfOk result (λ at. StandsAt (names_of names.new.keys) at (chars name.now)) }
+fn find_or_add(names: &mut IndexSet<String>, name: &str) -> Result<AtomId, NoMemory>
+    requires { HasFew names.old.keys }
+    ensures few { HasFew names.new.keys }
+    ensures place { IfOk result (λ atom.
+        StandsAt (names_of names.new.keys) atom.at (chars name.now)) }
     ensures names { let added = with_name (names_of names.old.keys) (chars name.now) in
         OnOk result (names_of names.new.keys ≡ added) }
     ensures err { OnErr result (names_of names.new.keys ≡ names_of names.old.keys) }
@@ -97,16 +104,21 @@ fn find_or_add(names: &mut IndexSet<String>, name: &str) -> Result<usize, NoMemo
         IsOk result }
 {
     if let Some(at) = names.get_index_of(name) {
-        return Ok(at);
+        return Ok(AtomId { at: at as u32 });
+    }
+    if names.len() >= MOST_NAMES {
+        return Err(NoMemory);
     }
     let owned = String::from_str(*names.allocator(), name)?;
     let (at, _) = names.insert_full(owned)?;
-    Ok(at)
+    Ok(AtomId { at: at as u32 })
 }
 
 /// The same for each of these names in turn.
 fn find_or_add_all(names: &mut IndexSet<String>, more: &[&str]) -> Result<(), NoMemory>
-    ensures { let added = map (λ text. chars text.now) more.now in
+    requires { HasFew names.old.keys }
+    ensures few { HasFew names.new.keys }
+    ensures names { let added = map (λ text. chars text.now) more.now in
         OnOk result (names_of names.new.keys ≡ with_names (names_of names.old.keys) added) }
 {
     for name in more {

@@ -13,7 +13,7 @@ use std::marker::Model;
 #[derive(Clone, Copy, Debug, PartialEq, Eq, Hash)]
 pub struct AtomId {
     /// The place.
-    pub at: usize,
+    pub at: u32,
 }
 
 /// The place of a cell, counted from 0.
@@ -44,7 +44,8 @@ pub enum Cell {
     },
 }
 
-/// A cell as it is kept: the number of arguments lies beside the tag, which makes it 24 bytes.
+/// A cell as it is kept: the number of arguments and the name lie beside the tag, which makes it 16
+/// bytes.
 #[derive(Clone, Copy, Debug, PartialEq, Eq)]
 enum Kept {
     /// A variable.

@@ -65,7 +65,7 @@ fn worked_rows(rt: HostRuntime) -> Result<(), Fail> {
     let at_start = atoms.len();
     let first = atoms.intern("zz")?;
     let second = atoms.intern("zz")?;
-    assert_eq!(rt; (first, first.at), (second, at_start));
+    assert_eq!(rt; (first, first.at as usize), (second, at_start));
     assert_eq!(rt; atoms.name(second), "zz");
     assert_eq!(rt; atoms.len(), at_start + 1);
 

@@ -24,3 +24,6 @@ returns-in_err-owned-clause-known c at e = absurd (not_found _ _ c.utf8.name (sy
 
 pub returns-in_err-at-clause-known : goal.returns-in_err-at-clause-known
 returns-in_err-at-clause-known c at e = absurd (not_found _ _ c.utf8.name (sym c.in_default.ensures.found) at e)
+
+pub returns-then-len-ge-MOST_NAMES-clause-known : goal.returns-then-len-ge-MOST_NAMES-clause-known
+returns-then-len-ge-MOST_NAMES-clause-known c at e = absurd (not_found _ _ c.utf8.name (sym c.in_default.ensures.found) at e)
