@@ -3,6 +3,7 @@
 ghost use Rattle.std.specs.Prelude.{◌≡◌, ◌<◌, ◌++◌, [], ◌∷◌, length, take, nat_eq, IfSome, IfOk, OnOk, OnErr};
 ghost use Rattle.tp_control.specs.Lists.{items_at};
 
+use crate::kept::FrameList;
 use std::alloc::Global;
 use std::marker::Model;
 use tp_terms::{ItemId, NoMemory, Ref};
@@ -29,7 +30,7 @@ pub struct Frame {
 /// place.
 #[derive(Drop)]
 pub struct Frames {
-    frames: Vec<Frame>,
+    frames: FrameList,
 }
 
 impl Model for Frames {
@@ -40,9 +41,9 @@ impl Model for Frames {
 
     ghost use Rattle.tp_control.specs.Lists.{lists, AreLinked};
 
-    ghost view = { λ f. lists f.frames.items };
+    ghost view = { λ f. lists f.frames };
 
-    ghost invariant = { λ f. AreLinked f.frames.items };
+    ghost invariant = { λ f. AreLinked f.frames };
 }
 
 impl Frames {
@@ -52,13 +53,14 @@ impl Frames {
         ensures { result ≡ [] }
     {
         Frames {
-            frames: Vec::new(alloc),
+            frames: FrameList::new(alloc),
         }
     }
 
     /// A place for an item in front of the list of another place.
     ///
-    /// Answers `NoMemory` where the memory for it isn't had, and then the lists are as before.
+    /// Answers `NoMemory` where the memory for it isn't had, or where there are 2^32 - 1 items, and
+    /// then the lists are as before.
     pub fn push(&mut self, item: Item, next: Option<ItemId>) -> Result<ItemId, NoMemory>
         requires { IfSome next (λ i. i.at < length self.old) }
         ensures place { IfOk result (λ i. i.at ≡ length self.old) }
@@ -76,7 +78,7 @@ impl Frames {
         ensures list { items_at self.now (Some at) ≡ result.0 ∷ items_at self.now result.1 }
         ensures next { IfSome result.1 (λ i. i.at < length self.now) }
     {
-        let frame = self.frames[at.at];
+        let frame = self.frames.get(at.at);
         (frame.item, frame.next)
     }
 
@@ -98,6 +100,6 @@ impl Frames {
     pub fn cut_to(&mut self, len: usize)
         ensures { self.new ≡ take len self.old }
     {
-        self.frames.truncate(len);
+        self.frames.cut_to(len);
     }
 }

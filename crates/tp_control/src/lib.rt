@@ -3,6 +3,7 @@
 
 pub mod choices;
 pub mod frames;
+mod kept;
 
 pub use choices::{Alt, Choice, Choices, Marks};
 pub use frames::{Frames, Item};

@@ -4,4 +4,4 @@ use Rattle.tp_control.proofs.ListsStay.{lists-take}
 use Rattle.tp_control.proofs.frames.Frames.cut_to.Goals as goal
 
 pub returns : goal.returns
-returns c = ap lists c.truncate.ensures.items ∙ lists-take c.args.len c.self.inside.frames.items ∙ ap (take c.args.len) c.self.view_is
+returns c = ap lists c.cut_to.ensures ∙ lists-take c.args.len c.self.inside.frames ∙ ap (take c.args.len) c.self.view_is

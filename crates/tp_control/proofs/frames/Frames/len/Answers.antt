@@ -4,5 +4,5 @@ use Rattle.tp_control.proofs.frames.Frames.len.Goals as goal
 
 pub returns : goal.returns
 returns c =
-    let e : c.len.result ≡ length c.self.inside.frames.items = search rules in
-    e ∙ sym (length-lists c.self.inside.frames.items) ∙ ap length c.self.view_is
+    let e : c.len.result ≡ length c.self.inside.frames = search rules in
+    e ∙ sym (length-lists c.self.inside.frames) ∙ ap length c.self.view_is
