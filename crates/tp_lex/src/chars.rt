@@ -3,6 +3,7 @@
 ghost use Rattle.std.specs.Prelude.{◌≡◌, [], ◌∷◌, chars, IfSome, MatchOption};
 ghost use Rattle.std.specs.List.{list_all};
 ghost use Rattle.std.specs.Str.{IsUtf8};
+ghost use Rattle.unicode_ident.specs.Ident.{is_xid_continue};
 ghost use Rattle.tp_lex.specs.Characters.{after_run, is_graphic, is_in_class, is_layout};
 ghost use Rattle.tp_lex.specs.Characters.{is_letter_digit, is_name_start, is_variable_start};
 
@@ -17,6 +18,7 @@ pub enum Class {
 }
 
 /// The first character, and what follows it; none where the text is empty. Takes no memory.
+#[inline(always)]
 pub fn split_first(text: &str) -> Option<(char, &str)>
     ensures split { MatchOption result (chars text.now ≡ [])
         (λ p. chars text.now ≡ p.0 ∷ chars p.1.now) }
@@ -37,10 +39,15 @@ pub fn is_layout(c: char) -> bool
 
 /// Whether a letter-digit name begins with the character: Unicode's `XID_Start` has it, and it is
 /// no ASCII capital.
+#[inline(always)]
 pub fn is_name_start(c: char) -> bool
     ensures { result ≡ is_name_start c }
 {
-    unicode_ident::is_xid_start(c) && !c.is_ascii_uppercase()
+    if c.is_ascii() {
+        c.is_ascii_lowercase()
+    } else {
+        unicode_ident::is_xid_start(c) && !c.is_ascii_uppercase()
+    }
 }
 
 /// Whether a variable begins with the character: it is `_` or an ASCII capital.
@@ -60,12 +67,29 @@ pub fn is_graphic(c: char) -> bool
     )
 }
 
+/// Whether a name goes on with the character. In ASCII these are letters, digits and `_`; small
+/// letters, which most are, are told first.
+#[inline(always)]
+fn is_continuing(c: char) -> bool
+    ensures { result ≡ is_xid_continue c }
+{
+    if c.is_ascii_lowercase() {
+        return true;
+    }
+    if c.is_ascii() {
+        c.is_ascii_alphanumeric() || c == '_'
+    } else {
+        unicode_ident::is_xid_continue(c)
+    }
+}
+
 /// Whether the character is in the class.
+#[inline(always)]
 pub fn is_in_class(class: Class, c: char) -> bool
     ensures { result ≡ is_in_class class c }
 {
     match class {
-        Class::Continuing => unicode_ident::is_xid_continue(c),
+        Class::Continuing => is_continuing(c),
         Class::Graphic => is_graphic(c),
     }
 }
@@ -89,6 +113,7 @@ pub fn is_letter_digit(name: &str) -> bool
 }
 
 /// What follows as many characters of the class as follow each other.
+#[inline(always)]
 pub fn after_run(text: &str, class: Class) -> &str
     ensures { chars result.now ≡ after_run class (chars text.now) }
 {

@@ -1,7 +1,8 @@
 //! The token that a text begins with, behind layout and comments.
 
-ghost use Rattle.std.specs.Prelude.{◌≡◌, chars, IfOk};
+ghost use Rattle.std.specs.Prelude.{◌≡◌, ◌∷◌, chars, false, IfOk};
 ghost use Rattle.std.specs.Str.{IsUtf8};
+ghost use Rattle.tp_lex.specs.Characters.{is_name_start, is_variable_start};
 ghost use Rattle.tp_lex.specs.Form.{ends_clause, form, graphic_form, integer_form, quotes_form, single, single_form};
 ghost use Rattle.tp_lex.specs.Integers.{integer};
 ghost use Rattle.tp_lex.specs.Quotes.{after_closing, inside};
@@ -18,6 +19,7 @@ use crate::token::{Fault, TokenKind};
 pub const LARGEST: u64 = 9_223_372_036_854_775_808;
 
 /// The kind of a character that is a token by itself.
+#[inline(always)]
 fn single(c: char) -> Option<TokenKind>
     ensures { result ≡ single c }
 {
@@ -46,6 +48,7 @@ fn ends_clause(text: &str) -> bool
 }
 
 /// The token that begins with a graphic character before the text.
+#[inline(always)]
 fn graphic_form(c: char, text: &str) -> (TokenKind, &str)
     ensures value { beside_chars result ≡ graphic_form c (chars text.now) }
     ensures utf8 { IsUtf8 result.1.now }
@@ -85,6 +88,7 @@ fn quotes_form(text: &str, mark: char, kind: TokenKind) -> Result<(TokenKind, &s
 }
 
 /// A token of one character.
+#[inline(always)]
 fn single_form(c: char, text: &str) -> Result<(TokenKind, &str), Fault>
     ensures value { answer beside_chars result ≡ single_form (single c) (chars text.now) }
     ensures utf8 { IfOk result (λ p. IsUtf8 p.1.now) }
@@ -95,20 +99,16 @@ fn single_form(c: char, text: &str) -> Result<(TokenKind, &str), Fault>
     }
 }
 
-/// The token's kind and what follows it.
+/// The token's kind and what follows it, where its first character begins no name and no variable.
 #[tactic(auto, unfolding(crate::specs::Form::form))]
-pub fn form(text: &str) -> Result<(TokenKind, &str), Fault>
+fn other_form<'a>(c: char, text: &'a str, after: &'a str) -> Result<(TokenKind, &'a str), Fault>
+    requires split { chars text.now ≡ c ∷ chars after.now }
+    requires name { is_name_start c ≡ false }
+    requires variable { is_variable_start c ≡ false }
     ensures value { answer beside_chars result ≡ form (chars text.now) }
     ensures utf8 { IfOk result (λ p. IsUtf8 p.1.now) }
 {
-    let Some((c, after)) = split_first(text) else {
-        return Err(Fault::BadToken);
-    };
-    if is_name_start(c) {
-        Ok((TokenKind::Name, after_run(after, Class::Continuing)))
-    } else if is_variable_start(c) {
-        Ok((TokenKind::Variable, after_run(after, Class::Continuing)))
-    } else if c.is_digit(10) {
+    if c.is_digit(10) {
         integer_form(text)
     } else if c == '\'' {
         quotes_form(after, '\'', TokenKind::Quoted)
@@ -118,5 +118,27 @@ pub fn form(text: &str) -> Result<(TokenKind, &str), Fault>
         Ok(graphic_form(c, after))
     } else {
         single_form(c, after)
+    }
+}
+
+/// The token's kind and what follows it. The kinds that most tokens have are told first.
+#[inline(always)]
+#[tactic(auto, unfolding(crate::specs::Form::form))]
+pub fn form(text: &str) -> Result<(TokenKind, &str), Fault>
+    ensures value { answer beside_chars result ≡ form (chars text.now) }
+    ensures utf8 { IfOk result (λ p. IsUtf8 p.1.now) }
+{
+    let Some((c, after)) = split_first(text) else {
+        return Err(Fault::BadToken);
+    };
+    if is_name_start(c) {
+        return Ok((TokenKind::Name, after_run(after, Class::Continuing)));
+    }
+    if is_variable_start(c) {
+        return Ok((TokenKind::Variable, after_run(after, Class::Continuing)));
+    }
+    match single(c) {
+        Some(kind) => Ok((kind, after)),
+        None => other_form(c, text, after),
     }
 }

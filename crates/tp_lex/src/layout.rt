@@ -72,6 +72,7 @@ pub fn after_slash(text: &str) -> Result<Option<&str>, Fault>
 }
 
 /// What follows one character of layout or one comment, where the text begins with one.
+#[inline(always)]
 #[tactic(auto, unfolding(crate::specs::Layout::after_gap))]
 pub fn after_gap(text: &str) -> Result<Option<&str>, Fault>
     ensures value { answer (option_map text_chars) result ≡ after_gap (chars text.now) }
@@ -92,6 +93,7 @@ pub fn after_gap(text: &str) -> Result<Option<&str>, Fault>
 }
 
 /// Where layout and comments end; or the comment that is not closed.
+#[inline(always)]
 pub fn past_layout(text: &str) -> Result<&str, &str>
     ensures value { result_map_both text_chars text_chars result ≡ past_layout (chars text.now) }
     ensures utf8 { MatchResult result (λ r. IsUtf8 r.now) (λ r. IsUtf8 r.now) }

@@ -27,6 +27,7 @@ fn fault_at(fault: Fault, byte: usize) -> LexFault
 /// `BadToken` where no token begins or the token is broken, `NumberRange` where an integer is above
 /// 9223372036854775808, and `Unfinished` where the text ends inside quotes or a comment, each with
 /// the byte at which the token or comment begins.
+#[inline(always)]
 pub fn next_token(text: &str, at: usize) -> Result<Option<Token>, LexFault>
     requires { IsCharBoundary text.now at }
     ensures value { result ≡ next text.now at }

@@ -31,6 +31,7 @@ pub struct Making {
 }
 
 /// The atom of a token's name.
+#[inline(always)]
 fn intern_token(
     alloc: Global,
     text: &str,
@@ -53,6 +54,7 @@ fn intern_token(
 }
 
 /// The atom of a place that has the same name in every table.
+#[inline(always)]
 fn start_atom(atom: AtomId, atoms: &Atoms) -> AtomId
     ensures same { result ≡ atom }
     ensures table { IsTable atoms.now }
@@ -62,6 +64,7 @@ fn start_atom(atom: AtomId, atoms: &Atoms) -> AtomId
 }
 
 /// The atom of a name.
+#[inline(always)]
 fn intern(alloc: Global, text: &str, label: Label, atoms: &mut Atoms) -> Result<AtomId, NoMemory>
     requires { IsLabel text.now label }
     ensures place { IfOk result (λ atom.
@@ -80,6 +83,7 @@ fn intern(alloc: Global, text: &str, label: Label, atoms: &mut Atoms) -> Result<
 }
 
 /// Adds cells side by side.
+#[inline(always)]
 fn add_all(cells: &mut Cells, items: &[Cell]) -> Result<(), NoMemory>
     requires { AllBefore (length cells.old.items) items.now }
     ensures { OnOk result (cells.new.items ≡ cells.old.items ++ items.now) }
@@ -123,6 +127,7 @@ fn link(making: &mut Making, cell: AtomId, count: usize) -> Result<(), NoMemory>
 }
 
 /// Takes a step.
+#[inline(always)]
 fn take_step(
     alloc: Global,
     text: &str,
@@ -165,7 +170,8 @@ const MOST_ROOM: usize = 1024;
 /// How many terms room is made for that are not among the cells yet.
 const USUAL_MADE: usize = 8;
 
-/// Nothing made yet, with room for the cells of so many steps: each makes one, but for lists.
+/// Nothing made yet, with room for the cells of so many steps: each makes one, and a list makes two
+/// for each of its elements.
 fn empty(alloc: Global, steps: usize) -> Result<Making, NoMemory>
     ensures cells { IfOk result (λ making. making.cells.items ≡ []) }
     ensures made { IfOk result (λ making. making.made.items ≡ []) }
@@ -176,7 +182,7 @@ fn empty(alloc: Global, steps: usize) -> Result<Making, NoMemory>
         made: Vec::new(alloc),
         variables: Variables::new(alloc),
     };
-    making.cells.reserve(steps.min(MOST_ROOM))?;
+    making.cells.reserve(2 * steps.min(MOST_ROOM))?;
     making.made.reserve(USUAL_MADE)?;
     Ok(making)
 }

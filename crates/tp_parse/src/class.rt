@@ -42,12 +42,21 @@ impl Class {
     }
 
     /// The entry of a name. A name that is longer than all that are there isn't looked up.
+    #[inline(always)]
     pub fn find(&self, name: &str) -> Option<Op>
         ensures { result ≡ found_in self.now (chars name.now) }
     {
         if name.len() > self.longest {
             return None;
         }
+        self.look_up(name)
+    }
+
+    /// The entry of a name.
+    #[inline(never)]
+    fn look_up(&self, name: &str) -> Option<Op>
+        ensures { result ≡ found_in self.now (chars name.now) }
+    {
         match self.entries.get(name) {
             Some(found) => *found,
             None => None,

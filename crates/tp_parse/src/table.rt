@@ -124,10 +124,13 @@ const START_OPERATORS: [(u16, OpType, &str); 40] = [
 pub struct Ops {
     prefixes: Class,
     infixes: Class,
+    /// The infix operator `,`, which is asked for at each comma.
+    comma: Option<Op>,
 }
 
 impl Model for Ops {
-    ghost use Rattle.tp_parse.specs.Ops.{Entries};
+    ghost use Rattle.std.specs.Prelude.{◌≡◌, codes};
+    ghost use Rattle.tp_parse.specs.Ops.{Entries, found_in};
 
     ghost Value = { Entries };
 
@@ -135,6 +138,8 @@ impl Model for Ops {
       prefixes = o.prefixes;
       infixes = o.infixes;
     } };
+
+    ghost invariant = { λ o. o.comma ≡ found_in o.infixes (codes ",") };
 }
 
 impl Ops {
@@ -156,6 +161,7 @@ impl Ops {
         Ops {
             prefixes: Class::new(alloc),
             infixes: Class::new(alloc),
+            comma: None,
         }
     }
 
@@ -199,6 +205,25 @@ impl Ops {
         self.infixes.find(name)
     }
 
+    /// The infix operator of `,`, if it is one. Takes no memory.
+    pub fn comma(&self) -> Option<Op>
+        ensures { result ≡ (table_of self.now).infixes (codes ",") }
+    {
+        self.comma
+    }
+
+    /// Changes the infix operator of a name.
+    fn set_infix(&mut self, name: &str, entry: Option<Op>) -> Result<(), NoMemory>
+        ensures prefixes { self.new.prefixes ≡ self.old.prefixes }
+        ensures ok { OnOk result (found_in self.new.infixes
+            ≡ changed (chars name.now) entry (found_in self.old.infixes)) }
+        ensures err { OnErr result (self.new ≡ self.old) }
+    {
+        self.infixes.set(name, entry)?;
+        self.comma = self.infixes.find(",");
+        Ok(())
+    }
+
     /// Sets the entry of a name in the type's class; none for priority 0.
     fn set(&mut self, priority: u16, kind: OpType, name: &str) -> Result<(), NoMemory>
         ensures ok { OnOk result
@@ -213,7 +238,7 @@ impl Ops {
         if kind.is_prefix() {
             self.prefixes.set(name, entry)
         } else {
-            self.infixes.set(name, entry)
+            self.set_infix(name, entry)
         }
     }
 }

@@ -11,21 +11,32 @@ use std::alloc::Global;
 use std::marker::Model;
 use tp_terms::{Named, Names, NoMemory, Text};
 
+/// How many variables are looked for one after another. Those behind them stand in a table.
+const FEW: usize = 8;
+
 /// The variables other than `_` with their numbers, in order of first occurrence, and how many
 /// variables there are.
 #[derive(Drop)]
 pub struct Variables {
-    named: IndexMap<String, u64>,
+    /// The first ones.
+    few: Vec<Named>,
+    /// Those behind them.
+    more: IndexMap<String, u64>,
     count: u64,
 }
 
 impl Model for Variables {
+    ghost use Rattle.std.specs.Prelude.{◌++◌, map};
     ghost use Rattle.tp_parse.specs.Numbers.{Numbers};
+    ghost use Rattle.tp_parse.specs.Tells.{named_of};
     ghost use Rattle.tp_parse.specs.Variables.{numbers_of};
 
     ghost Value = { Numbers };
 
-    ghost view = { λ v. record { named = numbers_of v.named.entries; vars = v.count } };
+    ghost view = { λ v. record {
+      named = map named_of v.few.items ++ numbers_of v.more.entries;
+      vars = v.count;
+    } };
 }
 
 impl Variables {
@@ -34,7 +45,8 @@ impl Variables {
         ensures { result ≡ no_numbers }
     {
         Variables {
-            named: IndexMap::new(alloc),
+            few: Vec::new(alloc),
+            more: IndexMap::new(alloc),
             count: 0,
         }
     }
@@ -49,10 +61,10 @@ impl Variables {
             self.count += 1;
             return Ok(number);
         }
-        match find(&self.named, name) {
+        match find(&self.few, &self.more, name) {
             Some(known) => Ok(known),
             None => {
-                add(&mut self.named, name, number)?;
+                add(&mut self.few, &mut self.more, name, number)?;
                 self.count += 1;
                 Ok(number)
             }
@@ -67,10 +79,10 @@ impl Variables {
     }
 
     /// The names with their numbers.
-    pub fn into_names(self, alloc: Global) -> Result<Names, NoMemory>
+    pub fn into_names(self) -> Result<Names, NoMemory>
         ensures { IfOk result (λ names. map named_of names ≡ self.named) }
     {
-        let names = names_from(alloc, self.named)?;
+        let names = with_names(self.few, self.more)?;
         Ok(Names::new(names))
     }
 }
@@ -82,18 +94,76 @@ fn is_anonymous(name: &str) -> bool
     name == "_"
 }
 
-/// The number of a name, if it has one.
-fn find(named: &IndexMap<String, u64>, name: &str) -> Option<u64>
-    ensures { result ≡ number_in (numbers_of named.now.entries) (chars name.now) }
+/// The number of a name, if it has one, among the first and those behind them.
+fn find(few: &[Named], more: &IndexMap<String, u64>, name: &str) -> Option<u64>
+    ensures { result ≡ number_in (map named_of few.now ++ numbers_of more.now.entries)
+        (chars name.now) }
 {
-    match named.get(name) {
+    match find_first(few, name) {
+        Some(number) => Some(number),
+        None => find_behind(more, name),
+    }
+}
+
+/// The number of a name, if it is one of the first.
+fn find_first(few: &[Named], name: &str) -> Option<u64>
+    ensures { result ≡ number_in (map named_of few.now) (chars name.now) }
+{
+    for named in few {
+        if name == named.name.as_str() {
+            return Some(named.number);
+        }
+    }
+    None
+}
+
+/// The number of a name, if the table has it.
+fn find_behind(more: &IndexMap<String, u64>, name: &str) -> Option<u64>
+    ensures { result ≡ number_in (numbers_of more.now.entries) (chars name.now) }
+{
+    if more.is_empty() {
+        return None;
+    }
+    match more.get(name) {
         Some(number) => Some(*number),
         None => None,
     }
 }
 
 /// Adds a name that has no number, with this one.
-fn add(named: &mut IndexMap<String, u64>, name: &str, number: u64) -> Result<(), NoMemory>
+fn add(
+    few: &mut Vec<Named>,
+    more: &mut IndexMap<String, u64>,
+    name: &str,
+    number: u64,
+) -> Result<(), NoMemory>
+    requires { number_in (map named_of few.old.items ++ numbers_of more.old.entries)
+        (chars name.now) ≡ None }
+    ensures { OnOk result (map named_of few.new.items ++ numbers_of more.new.entries
+        ≡ (map named_of few.old.items ++ numbers_of more.old.entries)
+        ++ (chars name.now, number) ∷ []) }
+{
+    if more.is_empty() && few.len() < FEW {
+        return add_first(few, name, number);
+    }
+    add_behind(more, name, number)
+}
+
+/// Adds a name with its number to the first ones.
+fn add_first(few: &mut Vec<Named>, name: &str, number: u64) -> Result<(), NoMemory>
+    ensures { OnOk result (map named_of few.new.items
+        ≡ map named_of few.old.items ++ (chars name.now, number) ∷ []) }
+{
+    let owned = String::from_str(*few.allocator(), name)?;
+    few.push(Named {
+        name: Text::new(owned),
+        number,
+    })?;
+    Ok(())
+}
+
+/// Adds a name that has no number to the table, with this one.
+fn add_behind(named: &mut IndexMap<String, u64>, name: &str, number: u64) -> Result<(), NoMemory>
     requires { number_in (numbers_of named.old.entries) (chars name.now) ≡ None }
     ensures { OnOk result (numbers_of named.new.entries
         ≡ numbers_of named.old.entries ++ (chars name.now, number) ∷ []) }
@@ -103,12 +173,13 @@ fn add(named: &mut IndexMap<String, u64>, name: &str, number: u64) -> Result<(),
     Ok(())
 }
 
-/// The names with their numbers, in their order.
-fn names_from(alloc: Global, named: IndexMap<String, u64>) -> Result<Vec<Named>, NoMemory>
-    ensures { IfOk result (λ names. map named_of names.items ≡ numbers_of named.entries) }
+/// The first names with their numbers, and then those of the table, in their order.
+fn with_names(few: Vec<Named>, more: IndexMap<String, u64>) -> Result<Vec<Named>, NoMemory>
+    ensures { IfOk result (λ names. map named_of names.items
+        ≡ map named_of few.items ++ numbers_of more.entries) }
 {
-    let mut names = Vec::new(alloc);
-    for (name, number) in named {
+    let mut names = few;
+    for (name, number) in more {
         names.push(Named {
             name: Text::new(name),
             number,

@@ -185,7 +185,7 @@ pub fn read_words(
     drop(words);
     let (cells, root, variables) = build(source.alloc, source.text, &steps, atoms)?;
     let vars = variables.count();
-    let named = variables.into_names(source.alloc)?;
+    let named = variables.into_names()?;
     Ok(ReadTerm {
         cells,
         root,

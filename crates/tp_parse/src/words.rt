@@ -78,6 +78,7 @@ pub fn plain_name<'a>(text: &'a str, token: &Token) -> &'a str
 }
 
 /// The prefix operator and the infix operator of a token's name.
+#[inline(always)]
 fn operators(source: &Source<'_>, token: Token) -> Result<(Option<Op>, Option<Op>), NoMemory>
     requires { IsTokenOf source.now.text.now token }
     ensures before { let name = token_name source.now.text.now token in
@@ -97,12 +98,13 @@ fn operators(source: &Source<'_>, token: Token) -> Result<(Option<Op>, Option<Op
                 source.ops.infix(name.as_str()),
             ))
         }
-        TokenKind::Comma => Ok((None, source.ops.infix(","))),
+        TokenKind::Comma => Ok((None, source.ops.comma())),
         _ => Ok((None, None)),
     }
 }
 
 /// The word of a token.
+#[inline(always)]
 fn make_word(source: &Source<'_>, token: Token, direct: bool) -> Result<Word, NoMemory>
     requires { IsTokenOf source.now.text.now token }
     ensures token { IfOk result (λ w. w.token ≡ token) }
@@ -119,6 +121,7 @@ fn make_word(source: &Source<'_>, token: Token, direct: bool) -> Result<Word, No
 }
 
 /// Whether a token that begins at a byte stands directly after one that ends there.
+#[inline(always)]
 fn stands_directly(end: Option<usize>, from: usize) -> bool
     ensures { result ≡ stands_directly end from }
 {
@@ -129,6 +132,7 @@ fn stands_directly(end: Option<usize>, from: usize) -> bool
 }
 
 /// The next word from a byte on, the token before it ending at a byte; none where no token remains.
+#[inline(always)]
 fn next_word(source: &Source<'_>, at: usize, end: Option<usize>) -> Result<Option<Word>, ReadFault>
     requires { IsCharBoundary source.now.text.now at }
     ensures tokens { (reach : Reach) → let text = source.now.text.now in
@@ -150,10 +154,12 @@ fn next_word(source: &Source<'_>, at: usize, end: Option<usize>) -> Result<Optio
     }
 }
 
-/// How many words room is made for at the first: as many as most clauses have.
-const USUAL_WORDS: usize = 24;
+/// How many words room is made for at the first: as many as most clauses have. They take 1000
+/// bytes, which allocators still keep at hand.
+const USUAL_WORDS: usize = 25;
 
 /// Adds a word. The first one makes room for those of most clauses.
+#[inline(always)]
 fn add_word(words: &mut Vec<Word>, word: Word) -> Result<(), NoMemory>
     ensures { OnOk result (words.new.items ≡ words.old.items ++ word ∷ []) }
 {

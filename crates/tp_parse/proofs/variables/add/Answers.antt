@@ -1,5 +1,9 @@
-use Rattle.tp_parse.proofs.Numbered.Variables.{added}
+use Rattle.std.proofs.Common.{map, chars}
+use Rattle.tp_parse.specs.Tells.{named_of}
+use Rattle.tp_parse.specs.Variables.{numbers_of}
+use Rattle.tp_parse.proofs.Numbered.Variables.{none-behind}
 use Rattle.tp_parse.proofs.variables.add.Goals as goal
 
-pub returns : goal.returns
-returns c = added c.args.named.now.entries c.insert.new.self.entries c.in_ok-owned.owned c.args.name.now _ c.in_ok-insert.ensures.entries c.in_ok-owned.ensures.ok c.requires
+pub add_behind-requires : goal.add_behind-requires
+add_behind-requires c =
+    none-behind (map named_of c.args.few.now.items) (numbers_of c.args.more.now.entries) (chars c.args.name.now) c.requires

@@ -1,14 +1,6 @@
-use Rattle.tp_parse.proofs.Operators.{found-some, found-none, found-longer}
+use Rattle.tp_parse.proofs.Operators.{found-longer}
 use Rattle.tp_parse.proofs.class.Class.find.Goals as goal
 
 pub returns-then-name-self : goal.returns-then-name-self
 returns-then-name-self c =
     rw (← c.self.view_is) (found-longer c.self.inside.entries.entries c.self.inside.longest c.args.name.now c.utf8.name c.self.invariant c.if-name-self.true)
-
-pub returns-in-Some : goal.returns-in-Some
-returns-in-Some c =
-    rw (← c.self.view_is) (found-some c.self.inside.entries.entries c.args.name.now _ c.utf8.name c.in-Some.ensures.value)
-
-pub returns-in-None : goal.returns-in-None
-returns-in-None c =
-    rw (← c.self.view_is) (found-none c.self.inside.entries.entries c.args.name.now c.utf8.name c.in-None.ensures.value)
