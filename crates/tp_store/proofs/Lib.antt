@@ -1,9 +1,11 @@
 pub mod Unifier
 pub mod Copies
 pub mod Bodies
+pub mod Blocks
 pub mod Arguments
 pub mod Substitution
-pub mod Trail
+pub mod Logging
+pub mod Linked
 pub mod HeadsMeet
 pub mod Comparison
 pub mod Standing

@@ -1,5 +1,5 @@
 -- Chained bindings, as the code keeps them.
-use Rattle.std.specs.Prelude.{◌≡◌, ◌⊎◌, ℕ, ◌+◌, ◌<◌, List, [], ◌∷◌, Option, Some, None, length, reverse, slice_get, slice_index_or}
+use Rattle.std.specs.Prelude.{◌≡◌, ◌⊎◌, ℕ, ◌+◌, ◌^◌, ◌<◌, List, [], ◌∷◌, Option, Some, None, length, reverse, slice_get, slice_index_or}
 use Rattle.tp_terms.specs.declared.cells.Cell.{Cell}
 use Rattle.tp_terms.specs.declared.cells.Cell.TheVariants as cell
 use Rattle.tp_terms.specs.declared.cells.Ref.{Ref}
@@ -14,7 +14,7 @@ use Rattle.tp_store.specs.Contents.{Contents, IsConstant, IsStore, IsUnbound, Is
 -- what the bindings and cells hold; the list in memory has the newest binding last
 abbrev pub contents_of : Chains → Contents
 contents_of s =
-    record { cells = s.cells.items; pairs = reverse s.pairs.items; vars = length s.bound.items }
+    record { cells = s.cells.items; pairs = reverse s.trail.pairs; vars = length s.trail.bound }
 
 -- the table by number has what the list has
 pub record IsTable (bound : List (Option Ref)) (pairs : Bindings) : Type 0 where
@@ -40,8 +40,9 @@ pub record IsClosed (cells : List Cell) (pairs : Bindings) (mark : StoreMark) : 
 
 pub record IsChains (s : Chains) : Type 0 where
   pub store : IsStore (contents_of s)
-  pub table : IsTable s.bound.items (reverse s.pairs.items)
-  pub closed : IsClosed s.cells.items (reverse s.pairs.items) s.closed
+  pub table : IsTable s.trail.bound (reverse s.trail.pairs)
+  pub closed : IsClosed s.cells.items (reverse s.trail.pairs) s.closed
+  pub fits : length s.trail.bound < 2 ^ 64
 
 -- a place at which a chain of bindings ends, and its cell
 pub record IsEnd (c : Contents) (e : End) : Type 0 where

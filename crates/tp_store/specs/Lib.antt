@@ -1,4 +1,5 @@
 pub mod Contents
+pub mod Trail
 pub mod Chain
 pub mod Work
 pub mod Copy
@@ -8,3 +9,4 @@ pub mod Meeting
 pub mod Joined
 pub mod Ordered
 pub mod Renamed
+pub mod Block

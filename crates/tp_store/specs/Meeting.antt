@@ -114,6 +114,6 @@ IsNoVariable x = (v : ℕ) → x ≡ cell.Var v → ⊥
 abbrev pub with_oldest : ℕ → Chains → Contents
 with_oldest kept s = record {
   cells = s.cells.items;
-  pairs = reverse (take kept s.pairs.items);
-  vars = length s.bound.items;
+  pairs = reverse (take kept s.trail.pairs);
+  vars = length s.trail.bound;
 }

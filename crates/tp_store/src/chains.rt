@@ -6,8 +6,11 @@ ghost use Rattle.tp_terms.specs.Shown.{StandsBefore, shown_from, shows};
 ghost use Rattle.tp_store.specs.Contents.{Contents, IsStore, Adds, CanGoBack, IsNumbered, IsUnbound, cut_to_mark, with_cell, with_vars, with_pair, seen, seen_cell};
 ghost use Rattle.tp_store.specs.Chain.{IsChains, IsClosed, IsEnd, LeadsOn, MayEndAt, contents_of};
 ghost use Rattle.tp_store.specs.Logged.{IsBound, unbound, without_pair};
+ghost use Rattle.tp_store.specs.Trail.{number_at};
 ghost use Rattle.std.specs.List.{remove};
 
+use crate::spare::Spare;
+use crate::trail::Trail;
 use std::alloc::Global;
 use tp_terms::{Cell, Cells, NoMemory, Ref, StoreMark};
 
@@ -16,12 +19,13 @@ use tp_terms::{Cell, Cells, NoMemory, Ref, StoreMark};
 pub struct Chains {
     /// The terms.
     pub cells: Cells,
-    /// What each variable is bound to, by its number.
-    pub bound: Vec<Option<Ref>>,
-    /// The bindings in their order.
-    pub pairs: Vec<(u64, Ref)>,
+    /// What each variable is bound to, and the bindings in their order.
+    pub trail: Trail,
     /// A mark before which terms have no variables but those that were claimed before it.
     pub closed: StoreMark,
+    /// Lists of work, kept for their memory. They are no part of `contents_of`, and have no
+    /// meaning.
+    pub spare: Spare,
 }
 
 /// The end of a chain of bindings.
@@ -36,15 +40,16 @@ pub struct End {
 /// The mark before which nothing stands.
 const START: StoreMark = StoreMark { cells: 0, vars: 0 };
 
-/// The place of the newest pair of a bound variable.
-fn newest_of(pairs: &[(u64, Ref)], number: u64) -> usize
-    requires { IsBound (reverse pairs.now) number }
-    ensures within { result < length pairs.now }
-    ensures removed { reverse (remove pairs.now result) ≡ without_pair number
-        (reverse pairs.now) }
+/// The place of the newest binding of a bound variable.
+fn newest_of(trail: &Trail, number: u64) -> usize
+    requires { IsBound (reverse trail.now.pairs) number }
+    ensures within { result < length trail.now.pairs }
+    ensures number { number_at trail.now.pairs result ≡ number }
+    ensures removed { reverse (remove trail.now.pairs result) ≡ without_pair number
+        (reverse trail.now.pairs) }
 {
-    let mut at = pairs.len() - 1;
-    'search: while pairs[at].0 != number {
+    let mut at = trail.len() - 1;
+    'search: while trail.number(at) != number {
         at -= 1;
     }
     at
@@ -58,21 +63,21 @@ impl Chains {
     {
         Chains {
             cells: Cells::new(alloc),
-            bound: Vec::new(alloc),
-            pairs: Vec::new(alloc),
+            trail: Trail::new(alloc),
             closed: START,
+            spare: Spare::new(alloc),
         }
     }
 
     /// The place that a variable is bound to.
     fn step(&self, cell: Cell) -> Option<Ref>
         requires chains { IsChains self.now }
-        requires numbered { IsNumbered (length self.now.bound.items) cell }
+        requires numbered { IsNumbered (length self.now.trail.bound) cell }
         ensures end { IfNone result (IsUnbound (contents_of self.now).pairs cell) }
         ensures on { IfSome result (λ next. LeadsOn (contents_of self.now) cell next) }
     {
         match cell {
-            Cell::Var(number) => self.bound[number as usize],
+            Cell::Var(number) => self.trail.get(number),
             _ => None,
         }
     }
@@ -100,7 +105,7 @@ impl Chains {
     pub fn place(&mut self, cell: Cell) -> Result<Ref, NoMemory>
         requires chains { IsChains self.old }
         requires before { StandsBefore (length self.old.cells.items) cell }
-        requires numbered { IsNumbered (length self.old.bound.items) cell }
+        requires numbered { IsNumbered (length self.old.trail.bound) cell }
         ensures chains { IsChains self.new }
         ensures place { IfOk result (λ at. at.at ≡ length self.old.cells.items) }
         ensures value { OnOk result (contents_of self.new ≡ with_cell (contents_of self.old) cell) }
@@ -116,17 +121,14 @@ impl Chains {
     pub fn claim(&mut self, n: u64) -> Result<u64, NoMemory>
         requires chains { IsChains self.old }
         ensures chains { IsChains self.new }
-        ensures first { IfOk result (λ first. first ≡ length self.old.bound.items) }
+        ensures first { IfOk result (λ first. first ≡ length self.old.trail.bound) }
         ensures fits { IfOk result (λ first. first + n < 2 ^ 64) }
         ensures value { OnOk result (contents_of self.new ≡ with_vars (contents_of self.old) n) }
         ensures err { OnErr result (contents_of self.new ≡ contents_of self.old) }
         ensures cells { self.new.cells ≡ self.old.cells }
     {
-        let first = self.bound.len();
-        let Some(len) = first.checked_add(n as usize) else {
-            return Err(NoMemory);
-        };
-        self.bound.resize(len, None)?;
+        let first = self.trail.variables();
+        self.trail.claim(n as usize)?;
         self.closed = StoreMark {
             cells: self.cells.len(),
             vars: first as u64,
@@ -141,7 +143,7 @@ impl Chains {
         ensures place { IfOk result (λ at. at.at ≡ length self.old.cells.items) }
         ensures value { OnOk result
             (contents_of self.new ≡ with_cell (with_vars (contents_of self.old) 1)
-            (Cell.Var (length self.old.bound.items))) }
+            (Cell.Var (length self.old.trail.bound))) }
         ensures err { OnErr result (contents_of self.new ≡ contents_of self.old) }
     {
         self.cells.reserve(1)?;
@@ -153,7 +155,7 @@ impl Chains {
     fn closed_with(&self, number: u64, place: Ref) -> StoreMark
         requires chains { IsChains self.now }
         requires place { place.at < length self.now.cells.items }
-        ensures { IsClosed self.now.cells.items ((number, place) ∷ reverse self.now.pairs.items)
+        ensures { IsClosed self.now.cells.items ((number, place) ∷ reverse self.now.trail.pairs)
             result }
     {
         if number >= self.closed.vars || place.at < self.closed.cells {
@@ -169,18 +171,17 @@ impl Chains {
     pub fn bind(&mut self, number: u64, place: Ref) -> Result<(), NoMemory>
         requires chains { IsChains self.old }
         requires adds { (names : List Name) →
-            Adds names self.old.cells.items (length self.old.bound.items)
+            Adds names self.old.cells.items (length self.old.trail.bound)
             (contents_of self.old).pairs number place }
         ensures chains { IsChains self.new }
         ensures value { OnOk result
             (contents_of self.new ≡ with_pair (contents_of self.old) number place) }
         ensures err { OnErr result (contents_of self.new ≡ contents_of self.old) }
         ensures table { OnOk result
-            (self.new.bound.items ≡ slice_set self.old.bound.items number (Some place)) }
+            (self.new.trail.bound ≡ slice_set self.old.trail.bound number (Some place)) }
     {
         let closed = self.closed_with(number, place);
-        self.pairs.push((number, place))?;
-        self.bound[number as usize] = Some(place);
+        self.trail.bind(number, place)?;
         self.closed = closed;
         Ok(())
     }
@@ -188,20 +189,18 @@ impl Chains {
     /// Takes the newest bindings back, down to so many.
     pub fn undo_to(&mut self, kept: usize)
         requires chains { IsChains self.old }
-        requires kept { kept ≤ length self.old.pairs.items }
+        requires kept { kept ≤ length self.old.trail.pairs }
         ensures chains { IsChains self.new }
         ensures value { contents_of self.new
             ≡ record {
               cells = self.old.cells.items;
               pairs = reverse
-                  (take kept self.old.pairs.items);
-              vars = length self.old.bound.items;
+                  (take kept self.old.trail.pairs);
+              vars = length self.old.trail.bound;
             } }
     {
-        'undo: while self.pairs.len() > kept {
-            if let Some(newest) = self.pairs.pop() {
-                self.bound[newest.0 as usize] = None;
-            }
+        'undo: while self.trail.len() > kept {
+            self.trail.pop();
         }
     }
 
@@ -212,9 +211,8 @@ impl Chains {
         ensures chains { IsChains self.new }
         ensures value { contents_of self.new ≡ unbound number (contents_of self.old) }
     {
-        let at = newest_of(&self.pairs, number);
-        self.pairs.remove(at);
-        self.bound[number as usize] = None;
+        let at = newest_of(&self.trail, number);
+        self.trail.remove(at);
     }
 
     /// Cuts cells and variable numbers to a mark. The bindings stay.
@@ -225,6 +223,6 @@ impl Chains {
         ensures value { contents_of self.new ≡ cut_to_mark (contents_of self.old) mark }
     {
         self.cells.cut_to(mark.cells);
-        self.bound.truncate(mark.vars as usize);
+        self.trail.cut_to(mark.vars as usize);
     }
 }

@@ -9,7 +9,9 @@ ghost use Rattle.tp_store.specs.Chain.{IsChains, contents_of};
 ghost use Rattle.tp_store.specs.Copy.{AreReady, IsClaimed, IsLast, NamesBoth, ShowsCopy, copies, looked_at, numbered_on};
 
 use crate::chains::Chains;
+use crate::spare::Copying;
 use std::alloc::Global;
+use std::mem;
 use tp_terms::{AtomId, Cell, Cells, NoMemory, Ref};
 
 /// What is left to do.
@@ -79,7 +81,7 @@ pub fn build(
 ) -> Result<(), NoMemory>
     requires chains { IsChains chains.old }
     requires enough { count ≤ length made.old.items }
-    requires ready { AreReady (length chains.old.cells.items) (length chains.old.bound.items)
+    requires ready { AreReady (length chains.old.cells.items) (length chains.old.trail.bound)
         (reverse made.old.items) }
     ensures chains { IsChains chains.new }
     ensures adds { AddsCells (contents_of chains.old) (contents_of chains.new) }
@@ -106,14 +108,14 @@ pub fn build(
 /// cells.
 fn copy(
     chains: &mut Chains,
-    alloc: Global,
+    work: &mut Copying,
     from: &Cells,
     root: Ref,
     base: u64,
 ) -> Result<Ref, NoMemory>
     requires chains { IsChains chains.old }
     requires root { root.at < length from.now.items }
-    requires claimed { IsClaimed from.now.items root.at base (length chains.old.bound.items) }
+    requires claimed { IsClaimed from.now.items root.at base (length chains.old.trail.bound) }
     ensures chains { IsChains chains.new }
     ensures adds { AddsCells (contents_of chains.old) (contents_of chains.new) }
     ensures place { IfOk result (λ at. at.at < length chains.new.cells.items) }
@@ -124,16 +126,19 @@ fn copy(
     ensures named { OnOk result
         (NamesBoth from.now.items chains.old.cells.items chains.new.cells.items) }
 {
-    let mut tasks = Vec::new(alloc);
-    let mut made = Vec::new(alloc);
-    tasks.push(Task::Copy(root))?;
-    'tasks: while let Some(task) = tasks.pop() {
+    work.tasks.clear();
+    work.made.clear();
+    work.tasks.push(Task::Copy(root))?;
+    'tasks: while let Some(task) = work.tasks.pop() {
         match task {
-            Task::Copy(at) => look_at(numbered_on(from.get(at), base), &mut tasks, &mut made)?,
-            Task::Build { name, count } => build(chains, name, count, &mut made)?,
+            Task::Copy(at) => {
+                let cell = numbered_on(from.get(at), base);
+                look_at(cell, &mut work.tasks, &mut work.made)?;
+            }
+            Task::Build { name, count } => build(chains, name, count, &mut work.made)?,
         }
     }
-    let at = chains.place(made[0])?;
+    let at = chains.place(work.made[0])?;
     Ok(at)
 }
 
@@ -148,7 +153,7 @@ pub fn instance(
 ) -> Result<Ref, NoMemory>
     requires chains { IsChains chains.old }
     requires root { root.at < length from.now.items }
-    requires claimed { IsClaimed from.now.items root.at base (length chains.old.bound.items) }
+    requires claimed { IsClaimed from.now.items root.at base (length chains.old.trail.bound) }
     ensures chains { IsChains chains.new }
     ensures adds { AddsCells (contents_of chains.old) (contents_of chains.new) }
     ensures place { IfOk result (λ at. at.at < length chains.new.cells.items) }
@@ -161,7 +166,10 @@ pub fn instance(
     ensures err { OnErr result (contents_of chains.new ≡ contents_of chains.old) }
 {
     let kept = chains.cells.len();
-    match copy(chains, alloc, from, root, base) {
+    let mut work = mem::replace(&mut chains.spare.copying, Copying::new(alloc));
+    let copied = copy(chains, &mut work, from, root, base);
+    chains.spare.copying = work;
+    match copied {
         Ok(at) => Ok(at),
         Err(refused) => {
             chains.cells.cut_to(kept);

@@ -16,7 +16,7 @@ use tp_terms::{Cells, NoMemory, Ref, StoreMark};
 /// Takes bindings back, down to so many, and then cells and numbers to a mark.
 fn take_back(chains: &mut Chains, kept: usize, mark: StoreMark)
     requires chains { IsChains chains.old }
-    requires kept { kept ≤ length chains.old.pairs.items }
+    requires kept { kept ≤ length chains.old.trail.pairs }
     requires can { CanGoBack (with_oldest kept chains.old) mark }
     ensures chains { IsChains chains.new }
     ensures value { contents_of chains.new ≡ cut_to_mark (with_oldest kept chains.old) mark }
@@ -39,7 +39,7 @@ pub fn unify_head(
     requires chains { IsChains chains.old }
     requires goal { goal.at < length chains.old.cells.items }
     requires head { head.at < length from.now.items }
-    requires claimed { IsClaimed from.now.items head.at base (length chains.old.bound.items) }
+    requires claimed { IsClaimed from.now.items head.at base (length chains.old.trail.bound) }
     ensures chains { IsChains chains.new }
     ensures found { IfOk result
         (FindsHead (contents_of chains.old) (contents_of chains.new) goal from.now.items head
@@ -50,10 +50,10 @@ pub fn unify_head(
     ensures named { OnOk result
         (NamesBoth from.now.items chains.old.cells.items chains.new.cells.items) }
 {
-    let kept = chains.pairs.len();
+    let kept = chains.trail.len();
     let mark = StoreMark {
         cells: chains.cells.len(),
-        vars: chains.bound.len() as u64,
+        vars: chains.trail.variables() as u64,
     };
     match meet_all(chains, from, base, goal, head) {
         Ok(true) => {}
@@ -66,7 +66,7 @@ pub fn unify_head(
             return Err(refused);
         }
     }
-    match log_bindings(&chains.pairs, kept, log) {
+    match log_bindings(&chains.trail, kept, log) {
         Ok(()) => Ok(true),
         Err(refused) => {
             take_back(chains, kept, mark);
@@ -87,16 +87,16 @@ pub fn head_unifiable(
     requires chains { IsChains chains.old }
     requires goal { goal.at < length chains.old.cells.items }
     requires head { head.at < length from.now.items }
-    requires claimed { IsClaimed from.now.items head.at base (length chains.old.bound.items) }
+    requires claimed { IsClaimed from.now.items head.at base (length chains.old.trail.bound) }
     ensures chains { IsChains chains.new }
     ensures found { IfOk result
         (HeadIsUnifiable (contents_of chains.old) goal from.now.items head base) }
     ensures value { contents_of chains.new ≡ contents_of chains.old }
 {
-    let kept = chains.pairs.len();
+    let kept = chains.trail.len();
     let mark = StoreMark {
         cells: chains.cells.len(),
-        vars: chains.bound.len() as u64,
+        vars: chains.trail.variables() as u64,
     };
     let answer = meet_all(chains, from, base, goal, head);
     take_back(chains, kept, mark);

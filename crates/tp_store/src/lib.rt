@@ -1,6 +1,7 @@
 //! The store: terms in cells, and what their variables are bound to.
 #![tactic(auto)]
 
+mod block;
 mod body;
 mod chains;
 mod copy;
@@ -12,6 +13,8 @@ mod order;
 mod pairs;
 mod rename;
 mod solve;
+mod spare;
 pub mod store;
+mod trail;
 
 pub use store::Store;

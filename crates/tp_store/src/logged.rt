@@ -7,6 +7,7 @@ ghost use Rattle.tp_store.specs.Logged.{Logs};
 
 use crate::chains::Chains;
 use crate::solve::unify;
+use crate::trail::Trail;
 use std::alloc::Global;
 use tp_log::{Entry, Log};
 use tp_terms::{NoMemory, Ref};
@@ -18,28 +19,28 @@ fn pop_to(log: &mut Log, kept: usize)
     'pops: while let Some(_) = log.pop_above(kept) {}
 }
 
-/// Adds the entries of the pairs from a place on. Want of memory leaves some of them.
-fn push_bindings(pairs: &[(u64, Ref)], kept: usize, log: &mut Log) -> Result<(), NoMemory>
-    requires { kept ≤ length pairs.now }
+/// Adds the entries of the bindings from a place on. Want of memory leaves some of them.
+fn push_bindings(trail: &Trail, kept: usize, log: &mut Log) -> Result<(), NoMemory>
+    requires { kept ≤ length trail.now.pairs }
     ensures logged { OnOk result
-        (log.new ≡ log.old ++ map (λ p. Entry.Bind p.0) (drop kept pairs.now)) }
+        (log.new ≡ log.old ++ map (λ p. Entry.Bind p.0) (drop kept trail.now.pairs)) }
     ensures kept { take (length log.old) log.new ≡ log.old }
 {
-    for at in kept..pairs.len() {
-        log.push(Entry::Bind(pairs[at].0))?;
+    for at in kept..trail.len() {
+        log.push(Entry::Bind(trail.number(at)))?;
     }
     Ok(())
 }
 
-/// Adds the entries of the pairs from a place on, or none where memory is refused.
-pub fn log_bindings(pairs: &[(u64, Ref)], kept: usize, log: &mut Log) -> Result<(), NoMemory>
-    requires { kept ≤ length pairs.now }
+/// Adds the entries of the bindings from a place on, or none where memory is refused.
+pub fn log_bindings(trail: &Trail, kept: usize, log: &mut Log) -> Result<(), NoMemory>
+    requires { kept ≤ length trail.now.pairs }
     ensures logged { OnOk result
-        (log.new ≡ log.old ++ map (λ p. Entry.Bind p.0) (drop kept pairs.now)) }
+        (log.new ≡ log.old ++ map (λ p. Entry.Bind p.0) (drop kept trail.now.pairs)) }
     ensures stays { OnErr result (log.new ≡ log.old) }
 {
     let mark = log.len();
-    match push_bindings(pairs, kept, log) {
+    match push_bindings(trail, kept, log) {
         Ok(()) => Ok(()),
         Err(refused) => {
             pop_to(log, mark);
@@ -67,11 +68,11 @@ pub fn unify_logged(
     ensures undone { result ≢ Ok true → contents_of chains.new ≡ contents_of chains.old }
     ensures log_stays { result ≢ Ok true → log.new ≡ log.old }
 {
-    let kept = chains.pairs.len();
+    let kept = chains.trail.len();
     if !unify(chains, alloc, left, right)? {
         return Ok(false);
     }
-    match log_bindings(&chains.pairs, kept, log) {
+    match log_bindings(&chains.trail, kept, log) {
         Ok(()) => Ok(true),
         Err(refused) => {
             chains.undo_to(kept);

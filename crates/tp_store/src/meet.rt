@@ -6,17 +6,19 @@ ghost use Rattle.tp_terms.specs.Term.{Name, Var};
 ghost use Rattle.tp_terms.specs.Shown.{StandsBefore, shows};
 ghost use Rattle.tp_terms.specs.Binds.{bound_in};
 ghost use Rattle.tp_meaning.specs.Clauses.{renamed};
-ghost use Rattle.tp_store.specs.Contents.{AddsCells, AddsPairs, Names, subst_of};
+ghost use Rattle.tp_store.specs.Block.{HasNoVariable};
+ghost use Rattle.tp_store.specs.Contents.{AddsPairs, Names, subst_of};
 ghost use Rattle.tp_store.specs.Chain.{IsChains, IsEnd, contents_of};
-ghost use Rattle.tp_store.specs.Copy.{IsClaimed, NamesBoth, ShowsCopy};
+ghost use Rattle.tp_store.specs.Copy.{IsClaimed, NamesBoth};
 ghost use Rattle.tp_store.specs.Joined.{KeepsAtoms};
 ghost use Rattle.tp_store.specs.Meeting.{AddsBoth, IsNoVariable, Looked, Meets, SplitStep};
 ghost use Rattle.tp_store.specs.Work.{IsGeneral, MayBind, NoneSolves};
 
+use crate::block::{Block, copy_block};
 use crate::chains::{Chains, End};
-use crate::copy::instance;
 use crate::pairs::{occurs_at, push_rows, same_constant};
 use crate::solve::solve;
+use std::mem;
 use tp_terms::{Cell, Cells, NoMemory, Ref};
 
 /// Binds an unbound variable to a place, unless it occurs in the place's term.
@@ -29,8 +31,11 @@ fn bind_apart(chains: &mut Chains, number: u64, place: Ref) -> Result<bool, NoMe
         (λ names. Var number) (λ names. shows names chains.old.cells.items place.at)
         (λ names. [])) }
 {
-    let alloc = *chains.pairs.allocator();
-    if occurs_at(chains, alloc, number, place)? {
+    let alloc = *chains.spare.pairs.allocator();
+    let mut work = mem::replace(&mut chains.spare.places, Vec::new(alloc));
+    let occurs = occurs_at(chains, &mut work, number, place);
+    chains.spare.places = work;
+    if occurs? {
         return Ok(false);
     }
     chains.bind(number, place)?;
@@ -41,7 +46,7 @@ fn bind_apart(chains: &mut Chains, number: u64, place: Ref) -> Result<bool, NoMe
 /// older's name.
 fn meet_unbound(chains: &mut Chains, number: u64, end: End) -> Result<bool, NoMemory>
     requires chains { IsChains chains.old }
-    requires claimed { number < length chains.old.bound.items }
+    requires claimed { number < length chains.old.trail.bound }
     requires unbound { bound_in (contents_of chains.old).pairs number ≡ None }
     requires end { IsEnd (contents_of chains.old) end }
     ensures chains { IsChains chains.new }
@@ -66,7 +71,7 @@ fn meet_unbound(chains: &mut Chains, number: u64, end: End) -> Result<bool, NoMe
 /// Makes a variable and the term of a place equal.
 fn meet_variable(chains: &mut Chains, number: u64, goal: Ref) -> Result<bool, NoMemory>
     requires chains { IsChains chains.old }
-    requires claimed { number < length chains.old.bound.items }
+    requires claimed { number < length chains.old.trail.bound }
     requires goal { goal.at < length chains.old.cells.items }
     ensures chains { IsChains chains.new }
     ensures adds { AddsBoth (contents_of chains.old) (contents_of chains.new) }
@@ -75,9 +80,9 @@ fn meet_variable(chains: &mut Chains, number: u64, goal: Ref) -> Result<bool, No
         (λ names. shows names chains.old.cells.items goal.at) (λ names. Var number)
         (λ names. [])) }
 {
-    match chains.bound[number as usize] {
+    match chains.trail.get(number) {
         Some(place) => {
-            let alloc = *chains.pairs.allocator();
+            let alloc = *chains.spare.pairs.allocator();
             solve(chains, alloc, goal, place)
         }
         None => {
@@ -87,28 +92,23 @@ fn meet_variable(chains: &mut Chains, number: u64, goal: Ref) -> Result<bool, No
     }
 }
 
-/// A place for the term of a place of other cells, which is no variable, each variable numbered on
-/// from the base.
-fn copy_of(chains: &mut Chains, from: &Cells, base: u64, head: Ref) -> Result<Ref, NoMemory>
+/// Binds an unbound variable to a copy, unless it occurs in the copy's term. The term of a copy
+/// without a variable isn't looked at.
+fn bind_block(chains: &mut Chains, number: u64, copy: Block) -> Result<bool, NoMemory>
     requires chains { IsChains chains.old }
-    requires head { head.at < length from.now.items }
-    requires claimed { IsClaimed from.now.items head.at base (length chains.old.bound.items) }
+    requires may { MayBind (contents_of chains.old) number copy.place }
+    requires plain { copy.varies ≡ false → HasNoVariable chains.old.cells.items copy.place.at }
     ensures chains { IsChains chains.new }
-    ensures adds { AddsCells (contents_of chains.old) (contents_of chains.new) }
-    ensures place { IfOk result (λ at. at.at < length chains.new.cells.items) }
-    ensures shown { IfOk result (ShowsCopy from.now.items head base chains.new.cells.items) }
-    ensures named { OnOk result
-        (NamesBoth from.now.items chains.old.cells.items chains.new.cells.items) }
-    ensures err { OnErr result (contents_of chains.new ≡ contents_of chains.old) }
+    ensures adds { AddsPairs (contents_of chains.old) (contents_of chains.new) }
+    ensures found { IfOk result (Meets (contents_of chains.old) (contents_of chains.new) []
+        (λ names. Var number) (λ names. shows names chains.old.cells.items copy.place.at)
+        (λ names. [])) }
 {
-    let cell = from.get(head);
-    match cell {
-        Cell::Int(_) | Cell::Atom(_) => chains.place(cell),
-        _ => {
-            let alloc = *chains.pairs.allocator();
-            instance(chains, alloc, from, head, base)
-        }
+    if copy.varies {
+        return bind_apart(chains, number, copy.place);
     }
+    chains.bind(number, copy.place)?;
+    Ok(true)
 }
 
 /// Binds an unbound variable to a copy of the term of a place of other cells, which is no variable,
@@ -121,10 +121,10 @@ fn bind_copy(
     head: Ref,
 ) -> Result<bool, NoMemory>
     requires chains { IsChains chains.old }
-    requires number { number < length chains.old.bound.items }
+    requires number { number < length chains.old.trail.bound }
     requires unbound { bound_in (contents_of chains.old).pairs number ≡ None }
     requires head { head.at < length from.now.items }
-    requires claimed { IsClaimed from.now.items head.at base (length chains.old.bound.items) }
+    requires claimed { IsClaimed from.now.items head.at base (length chains.old.trail.bound) }
     requires other { (v : ℕ) → (names : List Name) →
         shows names from.now.items head.at ≡ Var v → ⊥ }
     ensures chains { IsChains chains.new }
@@ -134,8 +134,8 @@ fn bind_copy(
         from.now.items (λ names. Var number)
         (λ names. renamed base (shows names from.now.items head.at)) (λ names. [])) }
 {
-    let at = copy_of(chains, from, base, head)?;
-    bind_apart(chains, number, at)
+    let copy = copy_block(chains, from, head, base)?;
+    bind_block(chains, number, copy)
 }
 
 /// Compares two cells that are no variables, the second one of other cells. The pairs of arguments
@@ -179,7 +179,7 @@ fn meet(
     requires chains { IsChains chains.old }
     requires goal { pair.0.at < length chains.old.cells.items }
     requires head { pair.1.at < length from.now.items }
-    requires claimed { IsClaimed from.now.items pair.1.at base (length chains.old.bound.items) }
+    requires claimed { IsClaimed from.now.items pair.1.at base (length chains.old.trail.bound) }
     ensures chains { IsChains chains.new }
     ensures adds { AddsBoth (contents_of chains.old) (contents_of chains.new) }
     ensures named { NamesBoth from.now.items chains.old.cells.items chains.new.cells.items }
@@ -197,6 +197,36 @@ fn meet(
     split(end.cell, cell, work)
 }
 
+/// Binds until no pair is left, the first one at the beginning. What it adds and binds stays,
+/// whatever it answers.
+fn meet_each(
+    chains: &mut Chains,
+    from: &Cells,
+    base: u64,
+    first: (Ref, Ref),
+    work: &mut Vec<(Ref, Ref)>,
+) -> Result<bool, NoMemory>
+    requires chains { IsChains chains.old }
+    requires goal { first.0.at < length chains.old.cells.items }
+    requires head { first.1.at < length from.now.items }
+    requires claimed { IsClaimed from.now.items first.1.at base (length chains.old.trail.bound) }
+    ensures chains { IsChains chains.new }
+    ensures adds { AddsBoth (contents_of chains.old) (contents_of chains.new) }
+    ensures named { NamesBoth from.now.items chains.old.cells.items chains.new.cells.items }
+    ensures found { IfOk result (Meets (contents_of chains.old) (contents_of chains.new)
+        from.now.items (λ names. shows names chains.old.cells.items first.0.at)
+        (λ names. renamed base (shows names from.now.items first.1.at)) (λ names. [])) }
+{
+    work.clear();
+    work.push(first)?;
+    'pairs: while let Some(pair) = work.pop() {
+        if !meet(chains, from, base, pair, work)? {
+            return Ok(false);
+        }
+    }
+    Ok(true)
+}
+
 /// Binds until no pair is left. What it adds and binds stays, whatever it answers.
 pub fn meet_all(
     chains: &mut Chains,
@@ -208,7 +238,7 @@ pub fn meet_all(
     requires chains { IsChains chains.old }
     requires goal { goal.at < length chains.old.cells.items }
     requires head { head.at < length from.now.items }
-    requires claimed { IsClaimed from.now.items head.at base (length chains.old.bound.items) }
+    requires claimed { IsClaimed from.now.items head.at base (length chains.old.trail.bound) }
     ensures chains { IsChains chains.new }
     ensures adds { AddsBoth (contents_of chains.old) (contents_of chains.new) }
     ensures named { NamesBoth from.now.items chains.old.cells.items chains.new.cells.items }
@@ -216,13 +246,9 @@ pub fn meet_all(
         from.now.items (λ names. shows names chains.old.cells.items goal.at)
         (λ names. renamed base (shows names from.now.items head.at)) (λ names. [])) }
 {
-    let alloc = *chains.pairs.allocator();
-    let mut work = Vec::new(alloc);
-    work.push((goal, head))?;
-    'pairs: while let Some(pair) = work.pop() {
-        if !meet(chains, from, base, pair, &mut work)? {
-            return Ok(false);
-        }
-    }
-    Ok(true)
+    let alloc = *chains.spare.pairs.allocator();
+    let mut work = mem::replace(&mut chains.spare.heads, Vec::new(alloc));
+    let met = meet_each(chains, from, base, (goal, head), &mut work);
+    chains.spare.heads = work;
+    met
 }

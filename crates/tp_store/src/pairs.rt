@@ -8,7 +8,6 @@ ghost use Rattle.tp_store.specs.Chain.{IsChains, IsEnd, contents_of};
 ghost use Rattle.tp_store.specs.Work.{places_from, pairs_from, VisitStep, CellStep, WorkStep, ArePairsIn, IsConstant, constants_eq};
 
 use crate::chains::{Chains, End};
-use std::alloc::Global;
 use tp_terms::{AtomId, Cell, NoMemory, Ref};
 
 /// What a pair of places asks for.
@@ -98,8 +97,13 @@ fn is_apart(chains: &Chains, number: u64, place: Ref) -> bool
 
 /// Whether a variable occurs in the term of a place, under the bindings. The time is constant for
 /// an integer or an atom, and for a place before the closed mark where the variable was claimed
-/// after it.
-pub fn occurs_at(chains: &Chains, alloc: Global, number: u64, place: Ref) -> Result<bool, NoMemory>
+/// after it. What the list held is dropped.
+pub fn occurs_at(
+    chains: &Chains,
+    work: &mut Vec<Ref>,
+    number: u64,
+    place: Ref,
+) -> Result<bool, NoMemory>
     requires chains { IsChains chains.now }
     requires place { place.at < length chains.now.cells.items }
     ensures { IfOk result
@@ -109,10 +113,10 @@ pub fn occurs_at(chains: &Chains, alloc: Global, number: u64, place: Ref) -> Res
     if is_apart(chains, number, place) {
         return Ok(false);
     }
-    let mut work = Vec::new(alloc);
+    work.clear();
     work.push(place)?;
     'visits: while let Some(at) = work.pop() {
-        if visit(number, chains.end(at), &mut work)? {
+        if visit(number, chains.end(at), work)? {
             return Ok(true);
         }
     }

@@ -94,9 +94,9 @@ fn copy_renamed(
 ) -> Result<Ref, NoMemory>
     requires chains { IsChains chains.old }
     requires root { root.at < length chains.old.cells.items }
-    requires claimed { base + length variables.now.keys ≡ length chains.old.bound.items }
+    requires claimed { base + length variables.now.keys ≡ length chains.old.trail.bound }
     requires fits { base + length variables.now.keys < 2 ^ 64 }
-    requires known { Below (length chains.old.bound.items)
+    requires known { Below (length chains.old.trail.bound)
         (renaming (contents_of chains.old) base variables.now.keys [] root.at) }
     ensures chains { IsChains chains.new }
     ensures adds { AddsCells (contents_of chains.old) (contents_of chains.new) }
@@ -137,7 +137,7 @@ pub fn copy(chains: &mut Chains, alloc: Global, root: Ref) -> Result<Ref, NoMemo
     let variables = variables_of(chains, alloc, root)?;
     let mark = StoreMark {
         cells: chains.cells.len(),
-        vars: chains.bound.len() as u64,
+        vars: chains.trail.variables() as u64,
     };
     let base = chains.claim(variables.len() as u64)?;
     match copy_renamed(chains, alloc, root, &variables, base) {

@@ -16,6 +16,7 @@ ghost use Rattle.tp_store.specs.Ordered.{IsOrder};
 ghost use Rattle.tp_store.specs.Renamed.{AddsTerms, Copies};
 ghost use Rattle.tp_store.specs.Bodies.{AsksMemory, FindsBody, IsWithin, KeepsNames, KeepsOwn};
 
+use crate::block::copy_block;
 use crate::body::body_of;
 use crate::chains::Chains;
 use crate::copy::instance;
@@ -121,8 +122,29 @@ impl Store {
         ensures store { IsStore self.new }
         ensures named { OnOk result (NamesBoth from.now.items self.old.cells self.new.cells) }
     {
-        let alloc = *self.chains.pairs.allocator();
+        let alloc = *self.chains.spare.pairs.allocator();
         instance(&mut self.chains, alloc, from, root, base)
+    }
+
+    /// A place for the term of `root` in `from`, as `instance` makes it. All cells from the lowest of
+    /// the term to its last are copied in one walk, so it is fast for a term whose cells stand
+    /// together, and adds cells that the term doesn't have where they don't. The condition `claimed`
+    /// is that the numbers of the variables were claimed.
+    ///
+    /// Answers `NoMemory` where the memory for it isn't had, and then the store is as before.
+    pub fn block(&mut self, from: &Cells, root: Ref, base: u64) -> Result<Ref, NoMemory>
+        requires root { root.at < length from.now.items }
+        requires claimed { IsClaimed from.now.items root.at base self.old.vars }
+        ensures adds { AddsCells self.old self.new }
+        ensures keeps { Keeps self.old self.new }
+        ensures place { IfOk result (λ at. at.at < length self.new.cells) }
+        ensures shown { IfOk result (ShowsCopy from.now.items root base self.new.cells) }
+        ensures err { OnErr result (self.new ≡ self.old) }
+        ensures store { IsStore self.new }
+        ensures named { OnOk result (NamesBoth from.now.items self.old.cells self.new.cells) }
+    {
+        let copy = copy_block(&mut self.chains, from, root, base)?;
+        Ok(copy.place)
     }
 
     /// A place for a copy of the term of a place, seen under the bindings, with new variables: they
@@ -140,13 +162,13 @@ impl Store {
         ensures store { IsStore self.new }
         ensures named { OnOk result (KeepsAtoms self.old self.new) }
     {
-        let alloc = *self.chains.pairs.allocator();
+        let alloc = *self.chains.spare.pairs.allocator();
         copy(&mut self.chains, alloc, at)
     }
 
     /// What this store takes its memory from.
     pub fn allocator(&self) -> Global {
-        *self.chains.pairs.allocator()
+        *self.chains.spare.pairs.allocator()
     }
 
     /// The cells of all places.
@@ -187,7 +209,7 @@ impl Store {
         ensures log_stays { result ≢ Ok true → log.new ≡ log.old }
         ensures store { IsStore self.new }
     {
-        let alloc = *self.chains.pairs.allocator();
+        let alloc = *self.chains.spare.pairs.allocator();
         unify_logged(&mut self.chains, alloc, left, right, log)
     }
 
@@ -263,7 +285,7 @@ impl Store {
         ensures unchanged { self.new ≡ self.old }
         ensures store { IsStore self.new }
     {
-        let alloc = *self.chains.pairs.allocator();
+        let alloc = *self.chains.spare.pairs.allocator();
         unifiable(&mut self.chains, alloc, left, right)
     }
 
@@ -280,7 +302,7 @@ impl Store {
         ensures order { IfOk result (IsOrder atoms.now self.now left right) }
         ensures store { IsStore self.now }
     {
-        let alloc = *self.chains.pairs.allocator();
+        let alloc = *self.chains.spare.pairs.allocator();
         compare(&self.chains, alloc, left, right, atoms)
     }
 
@@ -305,7 +327,7 @@ impl Store {
         ensures store { IsStore self.new }
         ensures named { OnOk result (KeepsNames CALL self.old self.new) }
     {
-        let alloc = *self.chains.pairs.allocator();
+        let alloc = *self.chains.spare.pairs.allocator();
         body_of(&mut self.chains, alloc, goal)
     }
 
@@ -341,7 +363,7 @@ impl Store {
     {
         StoreMark {
             cells: self.chains.cells.len(),
-            vars: self.chains.bound.len() as u64,
+            vars: self.chains.trail.variables() as u64,
         }
     }
 
@@ -360,6 +382,9 @@ impl Binds for Store {
     ghost bindings = { λ s. s.pairs };
 
     fn bound(&self, number: u64) -> Option<Ref> {
-        self.chains.bound.get(number as usize).copied().flatten()
+        if number >= self.chains.trail.variables() as u64 {
+            return None;
+        }
+        self.chains.trail.get(number)
     }
 }

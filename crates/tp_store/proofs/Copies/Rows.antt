@@ -52,30 +52,30 @@ AreReady-later n m vars (x ∷ xs) le h = (stands_later n m x le h.0, h.1, AreRe
 -- so many of the cells R that were made stand behind the cells of old, and the others are still to be put there
 pub record IsRow (old : Chains) (R : List Cell) (total k : ℕ) (now : Chains) (made : List Cell) : Type 0 where
   pub chains : IsChains now
-  pub ready : AreReady (length now.cells.items) (length now.bound.items) (reverse made)
+  pub ready : AreReady (length now.cells.items) (length now.trail.bound) (reverse made)
   pub left : length made + k ≡ total
   pub cells : now.cells.items ≡ old.cells.items ++ take k R
   pub rest : reverse made ≡ drop k R
-  pub pairs : reverse now.pairs.items ≡ reverse old.pairs.items
-  pub vars : length now.bound.items ≡ length old.bound.items
+  pub pairs : reverse now.trail.pairs ≡ reverse old.trail.pairs
+  pub vars : length now.trail.bound ≡ length old.trail.bound
 
-pub row_start : (old : Chains) (made : List Cell) → IsChains old → AreReady (length old.cells.items) (length old.bound.items) (reverse made) → IsRow old (reverse made) (length made) 0 old made
+pub row_start : (old : Chains) (made : List Cell) → IsChains old → AreReady (length old.cells.items) (length old.trail.bound) (reverse made) → IsRow old (reverse made) (length made) 0 old made
 row_start old made ok ready = record { chains = ok; ready = ready; left = omega arith; cells = sym (append-nil old.cells.items); rest = refl; pairs = refl; vars = refl }
 
 -- the newest cell that was made can be put
-pub row_ready : (old now : Chains) (R : List Cell) (total k : ℕ) (all mid : List Cell) (x : Cell) → IsRow old R total k now all → all ≡ mid ++ x ∷ [] → AreReady (length now.cells.items) (length now.bound.items) (x ∷ reverse mid)
-row_ready old now R total k all mid x h e = subst (AreReady (length now.cells.items) (length now.bound.items)) (newest_first all mid x e) h.ready
+pub row_ready : (old now : Chains) (R : List Cell) (total k : ℕ) (all mid : List Cell) (x : Cell) → IsRow old R total k now all → all ≡ mid ++ x ∷ [] → AreReady (length now.cells.items) (length now.trail.bound) (x ∷ reverse mid)
+row_ready old now R total k all mid x h e = subst (AreReady (length now.cells.items) (length now.trail.bound)) (newest_first all mid x e) h.ready
 
 pub row_turn : (old now new : Chains) (R : List Cell) (total k : ℕ) (all mid : List Cell) (x : Cell) → IsRow old R total k now all → all ≡ mid ++ x ∷ [] → IsChains new → contents_of new ≡ with_cell (contents_of now) x → IsRow old R total (k + 1) new mid
 row_turn old now new R total k all mid x h e ok value =
     let cells : new.cells.items ≡ now.cells.items ++ x ∷ [] = ap (λ (y : Contents). y.cells) value in
-    let vars : length new.bound.items ≡ length now.bound.items = ap (λ (y : Contents). y.vars) value in
+    let vars : length new.trail.bound ≡ length now.trail.bound = ap (λ (y : Contents). y.vars) value in
     let rest : drop k R ≡ x ∷ reverse mid = sym h.rest ∙ newest_first all mid x e in
     let longer : length new.cells.items ≡ length now.cells.items + 1 = ap length cells ∙ length-append now.cells.items (x ∷ []) in
     record {
       chains = ok;
       ready = subst (λ n. AreReady (length new.cells.items) n (reverse mid)) (sym vars)
-          (AreReady-later (length now.cells.items) (length new.cells.items) (length now.bound.items) (reverse mid) (omega arith) (row_ready old now R total k all mid x h e).2);
+          (AreReady-later (length now.cells.items) (length new.cells.items) (length now.trail.bound) (reverse mid) (omega arith) (row_ready old now R total k all mid x h e).2);
       left = let l : length all ≡ length mid + 1 = ap length e ∙ length-append mid (x ∷ []) in let i : length all + k ≡ total = h.left in omega arith;
       cells = cells ∙ ap (λ cs. cs ++ x ∷ []) h.cells ∙ append_assoc old.cells.items (take k R) (x ∷ []) ∙ ap (λ cs. old.cells.items ++ cs) (sym (take_next k R (reverse mid) x rest));
       rest = sym (drop_next k R (reverse mid) x rest);

@@ -1,5 +1,5 @@
 -- A variable that is bound: what its equation comes to.
-use Rattle.std.proofs.Common.{◌≡◌, ℕ, ◌+◌, ◌<◌, Bool, true, false, List, [], ◌∷◌, ◌++◌, length, Some, None, Result, Ok, Err, IfOk, OnOk, slice_get, get_or, refl, sym, ap, subst, ◌∙◌, arith, ◌↔◌, append-nil, append_assoc, length-append}
+use Rattle.std.proofs.Common.{◌≡◌, ℕ, ◌+◌, ◌<◌, Bool, true, false, List, [], ◌∷◌, ◌++◌, length, Some, None, Result, Ok, Err, IfOk, slice_get, get_or, refl, sym, ap, subst, ◌∙◌, arith, ◌↔◌, append-nil, append_assoc, length-append}
 use Rattle.std.proofs.lemmas.Option.{slice_get-get_or}
 use Rattle.std.proofs.Math.Seq.{get_or-append_seam}
 use Rattle.tp_terms.specs.declared.NoMemory.{NoMemory}
@@ -9,12 +9,12 @@ use Rattle.tp_terms.specs.declared.cells.Ref.{Ref}
 use Rattle.tp_terms.specs.Term.{Name, Term, Var, Int, Atom, Comp, replaced, occurs}
 use Rattle.tp_terms.specs.Shown.{shows, shown_from, AreNamed}
 use Rattle.tp_terms.specs.Binds.{bound_in}
-use Rattle.tp_terms.proofs.Places.Shown.{shows-cell, shows-push, AreNamed-cell, AreNamed-push}
+use Rattle.tp_terms.proofs.Places.Shown.{shows-cell, shows-push, AreNamed-push}
 use Rattle.tp_meaning.specs.Clauses.{renamed}
 use Rattle.tp_meaning.specs.Subst.{Subst, apply}
 use Rattle.tp_meaning.proofs.Unification.Solved.{over_term}
 use Rattle.tp_store.specs.declared.chains.End.{End}
-use Rattle.tp_store.specs.Contents.{Contents, AddsCells, AddsPairs, IsConstant, IsNumbered, IsStore, IsUnbound, Names, seen, seen_cell, subst_of, with_cell, with_pair}
+use Rattle.tp_store.specs.Contents.{Contents, AddsCells, AddsPairs, IsNumbered, IsStore, IsUnbound, Names, seen, seen_cell, subst_of, with_cell, with_pair}
 use Rattle.tp_store.specs.Chain.{IsEnd, rank}
 use Rattle.tp_store.specs.Copy.{NamesBoth, ShowsCopy}
 use Rattle.tp_store.specs.Work.{Extends, IsGeneral, MayBind, NoneSolves}
@@ -221,20 +221,3 @@ copied_meets r old mid new v at head from base ok a shown named m =
     (λ names n o. (record { distinct = n.distinct; named = named (length names) o n.named }, tt))
     (λ names f k. (λ h. h ∙ ap (replaced f) (shown names), λ h. h ∙ ap (replaced f) (sym (shown names))))
     m
-
--- an integer or an atom that is placed is a copy
-pub constant_copied : (r : Result Ref NoMemory) (old new : Contents) (from : List Cell) (root : Ref) (base : ℕ) (x : Cell) → IsConstant x → ((names : List Name) → shows names from root.at ≡ shown_from names from x)
-    → IfOk r (λ at. at.at ≡ length old.cells) → OnOk r (new ≡ with_cell old x) → IfOk r (ShowsCopy from root base new.cells)
-constant_copied (Ok at) old new from root base x k shown last e = λ names.
-    ap (λ (y : Contents). shows names y.cells at.at) e ∙ ap (shows names (old.cells ++ x ∷ [])) last ∙ shows-push names old.cells x ∙ go x k names ∙ ap (renamed base) (sym (shown names))
-  where
-    go : (y : Cell) → IsConstant y → (names : List Name) → shown_from names old.cells y ≡ renamed base (shown_from names from y)
-    go (cell.Var w) k names = absurd k
-    go (cell.Int value) k names = refl
-    go (cell.Atom name) k names = refl
-    go (cell.Comp name first count) k names = absurd k
-constant_copied (Err x) old new from root base y k shown last e = tt
-
-pub constant_named : (r : Result Ref NoMemory) (old new : Contents) (from : List Cell) (at : ℕ) (x : Cell) → slice_get from at ≡ Some x → OnOk r (new ≡ with_cell old x) → OnOk r (NamesBoth from old.cells new.cells)
-constant_named (Ok p) old new from at x here e = λ n f o. subst (λ (y : Contents). AreNamed n y.cells) (sym e) (AreNamed-push n old.cells x o (AreNamed-cell n from at x f here))
-constant_named (Err p) old new from at x here e = tt

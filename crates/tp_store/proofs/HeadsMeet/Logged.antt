@@ -13,7 +13,7 @@ use Rattle.tp_store.specs.Chain.{IsChains, contents_of}
 use Rattle.tp_store.specs.Logged.{FindsHead, HeadIsUnifiable, LogsHead}
 use Rattle.tp_store.specs.Meeting.{AddsBoth, Meets, with_oldest}
 use Rattle.tp_store.proofs.Standing.Facts.{IsSubst-store, can_go_back, went_back}
-use Rattle.tp_store.proofs.Trail.Entries.{drop_pairs, entries_of}
+use Rattle.tp_store.proofs.Logging.Entries.{drop_pairs, entries_of}
 use Rattle.tp_store.proofs.Unifier.General.{mgu-found, mgu-none, undone_pairs}
 use Rattle.tp_store.proofs.HeadsMeet.Equations.{comes_general}
 
@@ -38,9 +38,9 @@ missed old now new goal head from base ok ok2 m = λ names n o. met_finds old no
 
 -- ---- what is taken back
 
-module _ (old now : Chains) (kept : ℕ) (mark : StoreMark) (ok : IsChains old) (a : AddsBoth (contents_of old) (contents_of now)) (k : kept ≡ length old.pairs.items) (cells : mark.cells ≡ length old.cells.items) (vars : mark.vars ≡ length old.bound.items) where
-  oldest : reverse (take kept now.pairs.items) ≡ reverse old.pairs.items
-  oldest = ap (λ n. reverse (take n now.pairs.items)) k ∙ undone_pairs old.pairs.items now.pairs.items a.more a.pairs
+module _ (old now : Chains) (kept : ℕ) (mark : StoreMark) (ok : IsChains old) (a : AddsBoth (contents_of old) (contents_of now)) (k : kept ≡ length old.trail.pairs) (cells : mark.cells ≡ length old.cells.items) (vars : mark.vars ≡ length old.trail.bound) where
+  oldest : reverse (take kept now.trail.pairs) ≡ reverse old.trail.pairs
+  oldest = ap (λ n. reverse (take n now.trail.pairs)) k ∙ undone_pairs old.trail.pairs now.trail.pairs a.more a.pairs
 
   pub can_take_back : CanGoBack (with_oldest kept now) mark
   can_take_back = can_go_back (contents_of old) (with_oldest kept now) mark a.more_cells ok.store a.cells oldest (let v = a.vars in omega arith) cells vars
@@ -49,12 +49,12 @@ module _ (old now : Chains) (kept : ℕ) (mark : StoreMark) (ok : IsChains old) 
   took_back new e = e ∙ went_back (contents_of old) (with_oldest kept now) mark a.more_cells ok.store a.cells oldest (let v = a.vars in omega arith) cells vars
 
 -- the entries of the new bindings
-pub logs_both : (old now : Chains) (kept : ℕ) (before after : List Entry) → AddsBoth (contents_of old) (contents_of now) → kept ≡ length old.pairs.items → after ≡ before ++ entries_of (drop kept now.pairs.items) → LogsHead (contents_of old) (contents_of now) before after
+pub logs_both : (old now : Chains) (kept : ℕ) (before after : List Entry) → AddsBoth (contents_of old) (contents_of now) → kept ≡ length old.trail.pairs → after ≡ before ++ entries_of (drop kept now.trail.pairs) → LogsHead (contents_of old) (contents_of now) before after
 logs_both old now kept before after a k e = record {
   more_cells = a.more_cells;
   more = a.more;
   cells = a.cells;
   pairs = a.pairs;
   vars = a.vars;
-  log = e ∙ ap (λ n. before ++ entries_of (drop n now.pairs.items)) k ∙ ap (λ l. before ++ entries_of l) (drop_pairs old.pairs.items now.pairs.items a.more a.pairs);
+  log = e ∙ ap (λ n. before ++ entries_of (drop n now.trail.pairs)) k ∙ ap (λ l. before ++ entries_of l) (drop_pairs old.trail.pairs now.trail.pairs a.more a.pairs);
 }

@@ -1,7 +1,6 @@
 -- What chained bindings stand for.
 use Rattle.std.proofs.Common.{◌≡◌, ℕ, ◌+◌, ◌<◌, ◌≤◌, Bool, true, false, cond, nat_eq, List, [], ◌∷◌, map, length, Option, Some, None, IfSome, slice_get, get_or, refl, ap, sym, subst, ◌∙◌, arith}
 use Rattle.std.proofs.lemmas.Bool.{eqb-true, eq-eqb}
-use Rattle.std.proofs.lemmas.List.{get_or_default}
 use Rattle.tp_terms.specs.declared.cells.Cell.{Cell}
 use Rattle.tp_terms.specs.declared.cells.Cell.TheVariants as cell
 use Rattle.tp_terms.specs.declared.cells.Ref.{Ref}
@@ -99,8 +98,8 @@ module _ (names : List Name) (cells : List Cell) (vars : ℕ) where
 -- ---- one step along a chain
 
 -- the place that the table has for a variable is that of its binding
-pub table_at : (bound : List (Option Ref)) (pairs : Bindings) (v : ℕ) (o : Option Ref) → IsTable bound pairs → v < length bound → o ≡ get_or bound v o → bound_in pairs v ≡ o
-table_at bound pairs v o t lt e = sym (t.kept v) ∙ sym (get_or_default bound v o None lt) ∙ sym e
+pub table_at : (bound : List (Option Ref)) (pairs : Bindings) (v : ℕ) (o : Option Ref) → IsTable bound pairs → o ≡ get_or bound v None → bound_in pairs v ≡ o
+table_at bound pairs v o t e = sym (t.kept v) ∙ sym e
 
 leads_on : (c : Contents) (v : ℕ) (next : Ref) → IsStore c → bound_in c.pairs v ≡ Some next → LeadsOn c (cell.Var v) next
 leads_on c v next s e = record {
@@ -116,6 +115,6 @@ leads_on c v next s e = record {
     falls (cell.Atom name) f = omega arith
     falls (cell.Comp name first count) f = omega arith
 
-pub step_leads : (c : Contents) (bound : List (Option Ref)) (x : Cell) (v : ℕ) (o : Option Ref) → IsStore c → IsTable bound c.pairs → x ≡ cell.Var v → v < length bound → o ≡ get_or bound v o → IfSome o (λ next. LeadsOn c x next)
-step_leads c bound x v None s t is lt e = tt
-step_leads c bound x v (Some next) s t is lt e = subst (λ y. LeadsOn c y next) (sym is) (leads_on c v next s (table_at bound c.pairs v (Some next) t lt e))
+pub step_leads : (c : Contents) (bound : List (Option Ref)) (x : Cell) (v : ℕ) (o : Option Ref) → IsStore c → IsTable bound c.pairs → x ≡ cell.Var v → o ≡ get_or bound v None → IfSome o (λ next. LeadsOn c x next)
+step_leads c bound x v None s t is e = tt
+step_leads c bound x v (Some next) s t is e = subst (λ y. LeadsOn c y next) (sym is) (leads_on c v next s (table_at bound c.pairs v (Some next) t e))

@@ -99,17 +99,18 @@ module _ (old now new : Chains) (kept : ℕ) (o : IsChains old) (h : IsChains no
   cut_cells : take kept now.cells.items ≡ old.cells.items
   cut_cells = ap (λ n. take n now.cells.items) k ∙ ap (take (length old.cells.items)) a.cells ∙ take-append_seam old.cells.items a.more
 
-  cut_closed : IsClosed old.cells.items (reverse old.pairs.items) now.closed
+  cut_closed : IsClosed old.cells.items (reverse old.trail.pairs) now.closed
   cut_closed =
-      let chain : AreChained [] (take kept now.cells.items) (length old.bound.items) (reverse old.pairs.items) = subst (λ cs. AreChained [] cs (length old.bound.items) (reverse old.pairs.items)) (sym cut_cells) (o.store.chain []) in
-      subst (λ cs. IsClosed cs (reverse old.pairs.items) now.closed) cut_cells
-      (closed-take kept now.cells.items (length old.bound.items) (reverse old.pairs.items) now.closed chain (subst (λ ps. IsClosed now.cells.items ps now.closed) a.pairs h.closed))
+      let chain : AreChained [] (take kept now.cells.items) (length old.trail.bound) (reverse old.trail.pairs) = subst (λ cs. AreChained [] cs (length old.trail.bound) (reverse old.trail.pairs)) (sym cut_cells) (o.store.chain []) in
+      subst (λ cs. IsClosed cs (reverse old.trail.pairs) now.closed) cut_cells
+      (closed-take kept now.cells.items (length old.trail.bound) (reverse old.trail.pairs) now.closed chain (subst (λ ps. IsClosed now.cells.items ps now.closed) a.pairs h.closed))
 
-  pub IsChains-cut : new.bound ≡ now.bound → new.pairs ≡ now.pairs → new.closed ≡ now.closed → IsChains new
+  pub IsChains-cut : new.trail.bound ≡ now.trail.bound → new.trail.pairs ≡ now.trail.pairs → new.closed ≡ now.closed → IsChains new
   IsChains-cut bound pairs closed =
-      IsChains-of new (contents_of old) (cells ∙ cut_cells) (ap (λ ps. reverse ps.items) pairs ∙ a.pairs) (ap (λ os. length os.items) bound ∙ a.vars) o.store
-      (subst (λ os. IsTable os (reverse old.pairs.items)) (ap (λ os. os.items) (sym bound)) (subst (IsTable now.bound.items) a.pairs h.table))
-      (subst (IsClosed old.cells.items (reverse old.pairs.items)) (sym closed) cut_closed)
+      IsChains-of new (contents_of old) (cells ∙ cut_cells) (ap reverse pairs ∙ a.pairs) (ap length bound ∙ a.vars) o.store
+      (subst (λ os. IsTable os (reverse old.trail.pairs)) (sym bound) (subst (IsTable now.trail.bound) a.pairs h.table))
+      (subst (IsClosed old.cells.items (reverse old.trail.pairs)) (sym closed) cut_closed)
+      o.fits
 
 -- ---- what stands before a closed mark
 

@@ -1,7 +1,7 @@
 -- The facts of every store are kept by each change.
-use Rattle.std.proofs.Common.{◌≡◌, ℕ, zero, suc, ◌+◌, ◌<◌, ◌≤◌, Bool, true, false, cond, nat_eq, nat_lt, List, [], ◌∷◌, ◌++◌, length, take, replicate, reverse, Option, Some, None, Result, Ok, Err, OnOk, slice_get, get_or, set, refl, ap, sym, subst, ◌∙◌, arith, length-append, inl, inr}
+use Rattle.std.proofs.Common.{◌≡◌, ℕ, zero, suc, ◌+◌, ◌^◌, ◌<◌, ◌≤◌, Bool, true, false, cond, nat_eq, nat_lt, List, [], ◌∷◌, ◌++◌, length, take, replicate, reverse, Option, Some, None, Result, Ok, Err, OnOk, slice_get, get_or, set, refl, ap, sym, subst, ◌∙◌, arith, length-append, inl, inr}
 use Rattle.std.proofs.lemmas.Bool.{eqb-true, eq-eqb, ltb-true, ltb-false}
-use Rattle.std.proofs.lemmas.List.{get_or-set_same, get_or-set_other, get_or-take, length-set, length-take, take_all, reverse-append}
+use Rattle.std.proofs.lemmas.List.{get_or-set_same, get_or-set_other, get_or-take, length-set, length-take, reverse-append}
 use Rattle.std.proofs.Math.ListN.{get_or-eq_default}
 use Rattle.std.proofs.lemmas.Option.{slice_get_within}
 use Rattle.tp_terms.specs.declared.cells.Cell.{Cell}
@@ -202,10 +202,8 @@ get_or-more [] (suc k) (suc x) = get_or-more [] k x ∙ refl
 get_or-more (o ∷ bound) k zero = refl
 get_or-more (o ∷ bound) k (suc x) = get_or-more bound k x
 
-pub IsTable-vars : (bound bound' : List (Option Ref)) (pairs : Bindings) (k n : ℕ) → IsTable bound pairs → length bound ≤ n → bound' ≡ take n bound ++ replicate k None → IsTable bound' pairs
-IsTable-vars bound bound' pairs k n t le e = record {
-  kept = λ x. ap (λ os. get_or os x None) (e ∙ ap (λ os. os ++ replicate k None) (take_all n bound le)) ∙ get_or-more bound k x ∙ t.kept x;
-}
+pub IsTable-vars : (bound bound' : List (Option Ref)) (pairs : Bindings) (k : ℕ) → IsTable bound pairs → bound' ≡ bound ++ replicate k None → IsTable bound' pairs
+IsTable-vars bound bound' pairs k t e = record { kept = λ x. ap (λ os. get_or os x None) e ∙ get_or-more bound k x ∙ t.kept x }
 
 pub IsTable-cut : (bound : List (Option Ref)) (pairs : Bindings) (n : ℕ) → IsTable bound pairs → ((v : ℕ) → n ≤ v → bound_in pairs v ≡ None) → IsTable (take n bound) pairs
 IsTable-cut bound pairs n t none = record { kept = λ x. at x (nat_lt x n) refl }
@@ -216,13 +214,14 @@ IsTable-cut bound pairs n t none = record { kept = λ x. at x (nat_lt x n) refl 
 
 -- ---- bindings and cells as the code keeps them
 
-pub IsChains-of : (new : Chains) (c : Contents) → new.cells.items ≡ c.cells → reverse new.pairs.items ≡ c.pairs → length new.bound.items ≡ c.vars → IsStore c → IsTable new.bound.items c.pairs → IsClosed c.cells c.pairs new.closed → IsChains new
-IsChains-of new c cells pairs vars s t closed =
-    let same : c ≡ contents_of new = ap (λ cs. record { cells = cs; pairs = c.pairs; vars = c.vars }) (sym cells) ∙ ap (λ ps. record { cells = new.cells.items; pairs = ps; vars = c.vars }) (sym pairs) ∙ ap (λ n. record { cells = new.cells.items; pairs = reverse new.pairs.items; vars = n }) (sym vars) in
+pub IsChains-of : (new : Chains) (c : Contents) → new.cells.items ≡ c.cells → reverse new.trail.pairs ≡ c.pairs → length new.trail.bound ≡ c.vars → IsStore c → IsTable new.trail.bound c.pairs → IsClosed c.cells c.pairs new.closed → c.vars < 2 ^ 64 → IsChains new
+IsChains-of new c cells pairs vars s t closed fits =
+    let same : c ≡ contents_of new = ap (λ cs. record { cells = cs; pairs = c.pairs; vars = c.vars }) (sym cells) ∙ ap (λ ps. record { cells = new.cells.items; pairs = ps; vars = c.vars }) (sym pairs) ∙ ap (λ n. record { cells = new.cells.items; pairs = reverse new.trail.pairs; vars = n }) (sym vars) in
     record {
       store = subst IsStore same s;
-      table = subst (IsTable new.bound.items) (sym pairs) t;
+      table = subst (IsTable new.trail.bound) (sym pairs) t;
       closed = subst (λ ps. IsClosed new.cells.items ps new.closed) (sym pairs) (subst (λ cs. IsClosed cs c.pairs new.closed) (sym cells) closed);
+      fits = subst (λ (n : ℕ). n < 2 ^ 64) (sym vars) fits;
     }
 
 -- the newest binding is last in memory
@@ -230,27 +229,28 @@ pub reverse-push : (pairs more : List (ℕ × Ref)) (p : ℕ × Ref) → more �
 reverse-push pairs more p e = ap reverse e ∙ reverse-append pairs (p ∷ [])
 
 -- the newest binding is taken back
-module _ (old new : Chains) (p : ℕ × Ref) (h : IsChains old) (newest : old.pairs.items ≡ new.pairs.items ++ p ∷ []) where
+module _ (old new : Chains) (p : ℕ × Ref) (h : IsChains old) (newest : old.trail.pairs ≡ new.trail.pairs ++ p ∷ []) where
   before : Contents
-  before = record { cells = old.cells.items; pairs = reverse new.pairs.items; vars = length old.bound.items }
+  before = record { cells = old.cells.items; pairs = reverse new.trail.pairs; vars = length old.trail.bound }
 
   had : IsStore (with_pair before p.0 p.1)
   unfolding before
-  had = subst (λ ps. IsStore (record { cells = old.cells.items; pairs = ps; vars = length old.bound.items })) (reverse-push new.pairs.items old.pairs.items p newest) h.store
+  had = subst (λ ps. IsStore (record { cells = old.cells.items; pairs = ps; vars = length old.trail.bound })) (reverse-push new.trail.pairs old.trail.pairs p newest) h.store
 
-  pub newest_claimed : p.0 < length old.bound.items
+  pub newest_claimed : p.0 < length old.trail.bound
   unfolding before
   newest_claimed = (had.chain []).0.claimed
 
-  pub IsChains-undo : new.cells.items ≡ old.cells.items → new.bound.items ≡ set old.bound.items p.0 None → new.closed ≡ old.closed → IsChains new
+  pub IsChains-undo : new.cells.items ≡ old.cells.items → new.trail.bound ≡ set old.trail.bound p.0 None → new.closed ≡ old.closed → IsChains new
   unfolding before
   IsChains-undo cells bound mark =
-      IsChains-of new before cells refl (ap length bound ∙ length-set old.bound.items p.0 None) (IsStore-unpair before p.0 p.1 had)
-      (subst (λ os. IsTable os (reverse new.pairs.items)) (sym bound)
-      (IsTable-unpair old.bound.items (reverse new.pairs.items) p.0 p.1 (subst (IsTable old.bound.items) (reverse-push new.pairs.items old.pairs.items p newest) h.table) newest_claimed (had.chain []).0.unbound))
-      (subst (IsClosed old.cells.items (reverse new.pairs.items)) (sym mark) rest)
+      IsChains-of new before cells refl (ap length bound ∙ length-set old.trail.bound p.0 None) (IsStore-unpair before p.0 p.1 had)
+      (subst (λ os. IsTable os (reverse new.trail.pairs)) (sym bound)
+      (IsTable-unpair old.trail.bound (reverse new.trail.pairs) p.0 p.1 (subst (IsTable old.trail.bound) (reverse-push new.trail.pairs old.trail.pairs p newest) h.table) newest_claimed (had.chain []).0.unbound))
+      (subst (IsClosed old.cells.items (reverse new.trail.pairs)) (sym mark) rest)
+      h.fits
     where
-      rest : IsClosed old.cells.items (reverse new.pairs.items) old.closed
+      rest : IsClosed old.cells.items (reverse new.trail.pairs) old.closed
       rest =
-          let all : IsClosed old.cells.items (p ∷ reverse new.pairs.items) old.closed = subst (λ ps. IsClosed old.cells.items ps old.closed) (reverse-push new.pairs.items old.pairs.items p newest) h.closed in
+          let all : IsClosed old.cells.items (p ∷ reverse new.trail.pairs) old.closed = subst (λ ps. IsClosed old.cells.items ps old.closed) (reverse-push new.trail.pairs old.trail.pairs p newest) h.closed in
           record { variables = all.variables; bound = all.bound.1 }

@@ -66,12 +66,12 @@ undone_pairs old now more e =
     let all : now ≡ old ++ reverse more = sym (reverse-reverse now) ∙ ap reverse e ∙ reverse-append more (reverse old) ∙ ap (λ l. l ++ reverse more) (reverse-reverse old) in
     ap reverse (ap (take (length old)) all ∙ take-append_seam old (reverse more))
 
-pub undone_same : (old now : Chains) (new : Contents) (kept : ℕ) → AddsPairs (contents_of old) (contents_of now) → kept ≡ length old.pairs.items → new ≡ record { cells = now.cells.items; pairs = reverse (take kept now.pairs.items); vars = length now.bound.items } → new ≡ contents_of old
+pub undone_same : (old now : Chains) (new : Contents) (kept : ℕ) → AddsPairs (contents_of old) (contents_of now) → kept ≡ length old.trail.pairs → new ≡ record { cells = now.cells.items; pairs = reverse (take kept now.trail.pairs); vars = length now.trail.bound } → new ≡ contents_of old
 undone_same old now new kept a k e =
-    e ∙ ap (λ n. record { cells = now.cells.items; pairs = reverse (take n now.pairs.items); vars = length now.bound.items }) k
-    ∙ ap (λ cs. record { cells = cs; pairs = reverse (take (length old.pairs.items) now.pairs.items); vars = length now.bound.items }) a.cells
-    ∙ ap (λ ps. record { cells = old.cells.items; pairs = ps; vars = length now.bound.items }) (undone_pairs old.pairs.items now.pairs.items a.more a.pairs)
-    ∙ ap (λ n. record { cells = old.cells.items; pairs = reverse old.pairs.items; vars = n }) a.vars
+    e ∙ ap (λ n. record { cells = now.cells.items; pairs = reverse (take n now.trail.pairs); vars = length now.trail.bound }) k
+    ∙ ap (λ cs. record { cells = cs; pairs = reverse (take (length old.trail.pairs) now.trail.pairs); vars = length now.trail.bound }) a.cells
+    ∙ ap (λ ps. record { cells = old.cells.items; pairs = ps; vars = length now.trail.bound }) (undone_pairs old.trail.pairs now.trail.pairs a.more a.pairs)
+    ∙ ap (λ n. record { cells = old.cells.items; pairs = reverse old.trail.pairs; vars = n }) a.vars
 
 pub AddsPairs-same : (old new : Contents) → new ≡ old → AddsPairs old new
 AddsPairs-same old new e = record { more = []; pairs = ap (λ (x : Contents). x.pairs) e; cells = ap (λ (x : Contents). x.cells) e; vars = ap (λ (x : Contents). x.vars) e }
@@ -82,12 +82,12 @@ module _ (old now : Chains) (left right : ℕ) (ok : IsChains old) (ok2 : IsChai
       → (names : List Name) → mgu (subst_of names (contents_of old)) (shows names old.cells.items left) (shows names old.cells.items right) ≡ Some (subst_of names (contents_of now))
   found_true g names =
       mgu-found (subst_of names (contents_of old)) (shows names old.cells.items left) (shows names old.cells.items right) (subst_of names (contents_of now))
-      (IsSubst-chained names old.cells.items (length old.bound.items) (reverse old.pairs.items) (ok.store.chain names)) (IsSubst-chained names now.cells.items (length now.bound.items) (reverse now.pairs.items) (ok2.store.chain names)) (g names)
+      (IsSubst-chained names old.cells.items (length old.trail.bound) (reverse old.trail.pairs) (ok.store.chain names)) (IsSubst-chained names now.cells.items (length now.trail.bound) (reverse now.trail.pairs) (ok2.store.chain names)) (g names)
 
   pub found_false : ((names : List Name) → Names names old.cells.items → NoneSolves (subst_of names (contents_of old)) (shows names old.cells.items left) (shows names old.cells.items right))
       → (names : List Name) → Names names old.cells.items → mgu (subst_of names (contents_of old)) (shows names old.cells.items left) (shows names old.cells.items right) ≡ None
   found_false n names t =
-      mgu-none (subst_of names (contents_of old)) (shows names old.cells.items left) (shows names old.cells.items right) (IsSubst-chained names old.cells.items (length old.bound.items) (reverse old.pairs.items) (ok.store.chain names)) (n names t)
+      mgu-none (subst_of names (contents_of old)) (shows names old.cells.items left) (shows names old.cells.items right) (IsSubst-chained names old.cells.items (length old.trail.bound) (reverse old.trail.pairs) (ok.store.chain names)) (n names t)
 
   abbrev Yes : Type 0
   Yes = (names : List Name) → IsGeneral (subst_of names (contents_of old)) (shows names old.cells.items left) (shows names old.cells.items right) (subst_of names (contents_of now))

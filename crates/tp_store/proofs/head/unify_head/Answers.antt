@@ -1,10 +1,9 @@
-use Rattle.std.proofs.Common.{[], ◌++◌, true, drop, refl, subst, ap, ◌∙◌, arith}
+use Rattle.std.proofs.Common.{[], true, refl, subst, arith}
 use Rattle.tp_terms.specs.Shown.{shows}
 use Rattle.tp_meaning.specs.Clauses.{renamed}
 use Rattle.tp_store.specs.Chain.{contents_of}
 use Rattle.tp_store.specs.Meeting.{Meets}
-use Rattle.tp_store.proofs.Trail.Entries.{entries_of}
-use Rattle.tp_store.proofs.Trail.Head.{head_none}
+use Rattle.tp_store.proofs.Logging.Head.{head_none}
 use Rattle.tp_store.proofs.HeadsMeet.Logged.{can_take_back, logs_both, met_finds, missed, took_back}
 use Rattle.tp_store.proofs.head.unify_head.Goals as goal
 
@@ -33,7 +32,7 @@ returns-in-Ok-false-clause-found c =
 
 pub returns-in-Ok-clause-logged : goal.returns-in-Ok-clause-logged
 returns-in-Ok-clause-logged c =
-    logs_both c.args.chains.now c.meet_all.new.chains c.len-kept.result c.args.log.now c.log_bindings.new.log c.meet_all.ensures.adds (omega arith) (c.in-Ok.ensures.logged ∙ ap (λ ps. c.args.log.now ++ entries_of (drop c.len-kept.result ps)) c.deref.ensures.value)
+    logs_both c.args.chains.now c.meet_all.new.chains c.len-kept.result c.args.log.now c.log_bindings.new.log c.meet_all.ensures.adds (omega arith) c.in-Ok.ensures.logged
 
 pub returns-in-Ok-false-clause-undone : goal.returns-in-Ok-false-clause-undone
 returns-in-Ok-false-clause-undone c = λ _.

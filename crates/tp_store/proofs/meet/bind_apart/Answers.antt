@@ -7,7 +7,7 @@ use Rattle.tp_store.proofs.meet.bind_apart.Goals as goal
 
 pub returns-then-branch-clause-found : goal.returns-then-branch-clause-found
 returns-then-branch-clause-found c = λ names tables other f e same.
-    never (contents_of c.args.chains.now) c.args.number c.args.place c.requires.chains.store c.requires.may names (sym (c.in_ok-occurs_at.ensures names) ∙ c.if-branch.true) f e same
+    never (contents_of c.args.chains.now) c.args.number c.args.place c.requires.chains.store c.requires.may names (sym (c.in_ok-occurs.ensures names) ∙ c.if-branch.true) f e same
 
 pub returns-clause-adds : goal.returns-clause-adds
 returns-clause-adds c =
@@ -16,4 +16,4 @@ returns-clause-adds c =
 
 pub returns-clause-found : goal.returns-clause-found
 returns-clause-found c =
-    bind_meets (contents_of c.args.chains.now) (contents_of c.bind.new.self) c.args.number c.args.place c.requires.chains.store c.requires.may (λ names. sym (c.in_ok-occurs_at.ensures names) ∙ c.if-branch.false) c.in_ok-bind.ensures.value
+    bind_meets (contents_of c.args.chains.now) (contents_of c.bind.new.self) c.args.number c.args.place c.requires.chains.store c.requires.may (λ names. sym (c.in_ok-occurs.ensures names) ∙ c.if-branch.false) c.in_ok-bind.ensures.value

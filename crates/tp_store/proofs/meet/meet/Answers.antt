@@ -8,13 +8,13 @@ use Rattle.tp_store.proofs.meet.meet.Goals as goal
 
 pub overflow_add-number : goal.overflow_add-number
 overflow_add-number c =
-    let lt : c.in-Var.number + c.args.base < length c.args.chains.now.bound.items =
-    claimed_here c.args.from.now.items c.args.pair.1.at c.args.base (length c.args.chains.now.bound.items) c.get-cell.result c.in-Var.number c.requires.claimed (c.get-cell.ensures.shown []) c.in-Var.is (eq-eqb c.in-Var.number c.in-Var.number refl) in
-    omega arith
+    let lt : c.in-Var.number + c.args.base < length c.args.chains.now.trail.bound =
+    claimed_here c.args.from.now.items c.args.pair.1.at c.args.base (length c.args.chains.now.trail.bound) c.get-cell.result c.in-Var.number c.requires.claimed (c.get-cell.ensures.shown []) c.in-Var.is (eq-eqb c.in-Var.number c.in-Var.number refl) in
+    omega (arith, c.requires.chains.fits)
 
 pub meet_variable-requires-clause-claimed : goal.meet_variable-requires-clause-claimed
 meet_variable-requires-clause-claimed c =
-    claimed_here c.args.from.now.items c.args.pair.1.at c.args.base (length c.args.chains.now.bound.items) c.get-cell.result c.in-Var.number c.requires.claimed (c.get-cell.ensures.shown []) c.in-Var.is (eq-eqb c.in-Var.number c.in-Var.number refl)
+    claimed_here c.args.from.now.items c.args.pair.1.at c.args.base (length c.args.chains.now.trail.bound) c.get-cell.result c.in-Var.number c.requires.claimed (c.get-cell.ensures.shown []) c.in-Var.is (eq-eqb c.in-Var.number c.in-Var.number refl)
 
 pub returns-in-Var-clause-named : goal.returns-in-Var-clause-named
 returns-in-Var-clause-named c n from old = c.meet_variable.ensures.named n old

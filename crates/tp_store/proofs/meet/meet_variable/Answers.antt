@@ -9,7 +9,7 @@ use Rattle.tp_store.proofs.meet.meet_variable.Goals as goal
 pub solve-requires-clause-right : goal.solve-requires-clause-right
 solve-requires-clause-right c =
     let old = contents_of c.args.chains.now in
-    (bound_within old c.args.number c.in-Some.place c.requires.chains.store (table_at c.args.chains.now.bound.items old.pairs c.args.number c.index.result.now c.requires.chains.table c.requires.claimed c.index.ensures ∙ c.in-Some.is)).1
+    (bound_within old c.args.number c.in-Some.place c.requires.chains.store (table_at c.args.chains.now.trail.bound old.pairs c.args.number c.get.result c.requires.chains.table c.get.ensures ∙ c.in-Some.is)).1
 
 pub returns-in-Some-clause-adds : goal.returns-in-Some-clause-adds
 returns-in-Some-clause-adds c = both_pairs (contents_of c.args.chains.now) (contents_of c.solve.new.chains) c.solve.ensures.adds
@@ -18,7 +18,7 @@ pub returns-in-Some-clause-found : goal.returns-in-Some-clause-found
 returns-in-Some-clause-found c =
     let old = contents_of c.args.chains.now in
     bound_meets c.solve.result old (contents_of c.solve.new.chains) c.args.number c.args.goal.at c.in-Some.place c.requires.chains.store
-    (table_at c.args.chains.now.bound.items old.pairs c.args.number c.index.result.now c.requires.chains.table c.requires.claimed c.index.ensures ∙ c.in-Some.is)
+    (table_at c.args.chains.now.trail.bound old.pairs c.args.number c.get.result c.requires.chains.table c.get.ensures ∙ c.in-Some.is)
     (solved_meets c.solve.result old (contents_of c.solve.new.chains) c.args.goal.at c.in-Some.place.at c.solve.ensures.yes c.solve.ensures.no)
 
 pub returns-in-None-clause-found : goal.returns-in-None-clause-found

@@ -10,3 +10,4 @@ returns-clause-chains c =
     let old = contents_of c.args.self.now in
     IsChains-of _ (with_cell old c.args.cell) c.in_ok-at.ensures.items refl refl (IsStore-cell old c.args.cell c.requires.chains.store c.requires.before c.requires.numbered) c.requires.chains.table
     (closed-cell old c.args.cell c.args.self.now.closed (record { cells = c.min-self.result; vars = c.args.self.now.closed.vars }) c.requires.chains.store c.requires.chains.closed refl (omega arith) (omega (arith, c.in_ok-at.ensures.place)) (λ at l k. omega (arith, c.in_ok-at.ensures.place)))
+    c.requires.chains.fits

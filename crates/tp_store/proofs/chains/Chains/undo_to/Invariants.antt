@@ -5,11 +5,11 @@ use Rattle.tp_store.proofs.chains.Chains.undo_to.Given as goal
 abbrev pub invariant-undo : goal.invariant-undo
 invariant-undo l = record {
   chains : IsChains l.self;
-  kept : l.kept ≤ length l.self.pairs.items;
+  kept : l.kept ≤ length l.self.trail.pairs;
   cells : l.self.cells ≡ l.fn.self.cells;
-  vars : length l.self.bound.items ≡ length l.fn.self.bound.items;
-  pairs : take l.kept l.self.pairs.items ≡ take l.kept l.fn.self.pairs.items;
+  vars : length l.self.trail.bound ≡ length l.fn.self.trail.bound;
+  pairs : take l.kept l.self.trail.pairs ≡ take l.kept l.fn.self.trail.pairs;
 }
 
 abbrev pub decreases-undo : goal.decreases-undo
-decreases-undo l = length l.self.pairs.items
+decreases-undo l = length l.self.trail.pairs

@@ -3,7 +3,7 @@ use Rattle.tp_terms.specs.Shown.{AreNamed}
 use Rattle.tp_store.specs.Contents.{Contents}
 use Rattle.tp_store.specs.Chain.{contents_of}
 use Rattle.tp_store.specs.Logged.{LogsHead}
-use Rattle.tp_store.proofs.Trail.Head.{head_keeps}
+use Rattle.tp_store.proofs.Logging.Head.{head_keeps}
 use Rattle.tp_store.proofs.store.Store.unify_head.Goals as goal
 
 pub returns-clause-terms : goal.returns-clause-terms

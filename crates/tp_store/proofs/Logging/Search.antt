@@ -5,6 +5,8 @@ use Rattle.std.specs.List.{remove}
 use Rattle.tp_terms.specs.declared.cells.Ref.{Ref}
 use Rattle.tp_terms.specs.Binds.{bound_in}
 use Rattle.tp_store.specs.Logged.{IsBound, without_pair}
+use Rattle.tp_store.specs.Trail.{number_at}
+use Rattle.tp_store.proofs.Logging.Numbers.{binding_at}
 
 -- the newest pair of the variable stands before this place
 pub record IsBefore (pairs : List (ℕ × Ref)) (n at : ℕ) : Type 0 where
@@ -32,8 +34,12 @@ some_pair [] n b = absurd (cc)
 some_pair (p ∷ pairs) n b = omega arith
 
 -- the last pair before the place is of another variable
-pub before_other : (pairs : List (ℕ × Ref)) (n at : ℕ) (p : ℕ × Ref) → at < length pairs → get_or pairs at p ≡ p → nat_eq p.0 n ≡ false → IsBefore pairs n (at + 1) → IsBefore pairs n at
-before_other pairs n at p lt here other i =
+pub before_other : (pairs : List (ℕ × Ref)) (n at k : ℕ) → at < length pairs → k ≡ number_at pairs at → nat_eq k n ≡ false → IsBefore pairs n (at + 1) → IsBefore pairs n at
+before_other pairs n at k lt is differs i =
+    let b = binding_at pairs at lt in
+    let p = b.pair in
+    let here = b.here in
+    let other : nat_eq p.0 n ≡ false = ap (λ m. nat_eq m n) (sym (is ∙ b.number)) ∙ differs in
     let first = newest_first pairs at p lt here in
     record {
       within = omega arith;
@@ -46,8 +52,12 @@ before_other pairs n at p lt here other i =
     }
 
 -- the last pair before the place is of the variable
-pub before_found : (pairs : List (ℕ × Ref)) (n at : ℕ) (p : ℕ × Ref) → at < length pairs → get_or pairs at p ≡ p → nat_eq p.0 n ≡ true → IsBefore pairs n (at + 1) → reverse (remove pairs at) ≡ without_pair n (reverse pairs)
-before_found pairs n at p lt here same i =
+pub before_found : (pairs : List (ℕ × Ref)) (n at k : ℕ) → at < length pairs → k ≡ number_at pairs at → nat_eq k n ≡ true → IsBefore pairs n (at + 1) → reverse (remove pairs at) ≡ without_pair n (reverse pairs)
+before_found pairs n at k lt is found i =
+    let b = binding_at pairs at lt in
+    let p = b.pair in
+    let here = b.here in
+    let same : nat_eq p.0 n ≡ true = ap (λ m. nat_eq m n) (sym (is ∙ b.number)) ∙ found in
     let first = newest_first pairs at p lt here in
     reverse-append (take at pairs) (drop (suc at) pairs)
     ∙ ap (λ k. reverse (drop k pairs) ++ reverse (take at pairs)) (let e : suc at ≡ at + 1 = omega arith in e)

@@ -1,7 +1,7 @@
 use Rattle.tp_store.specs.Chain.{IsChains, contents_of}
 use Rattle.tp_store.specs.Work.{unbound_count}
 use Rattle.tp_store.proofs.Unifier.Solutions.{IsSolving}
-use Rattle.tp_store.proofs.solve.solve.Given as goal
+use Rattle.tp_store.proofs.solve.bind_each.Given as goal
 
 abbrev pub invariant-bindings : goal.invariant-bindings
 invariant-bindings l = record {
@@ -10,4 +10,4 @@ invariant-bindings l = record {
 }
 
 abbrev pub decreases-bindings : goal.decreases-bindings
-decreases-bindings l = unbound_count l.chains.bound.items
+decreases-bindings l = unbound_count l.chains.trail.bound

@@ -4,7 +4,7 @@ use Rattle.tp_store.specs.Meeting.{Looked, MeetStep, heads_size}
 use Rattle.tp_store.proofs.Copies.Rows.{newest_first}
 use Rattle.tp_store.proofs.HeadsMeet.Binding.{both_same, both_trans}
 use Rattle.tp_store.proofs.HeadsMeet.Turns.{IsMeeting, meeting_start, meeting_turn, meeting_smaller, meeting_none}
-use Rattle.tp_store.proofs.meet.meet_all.Goals as goal
+use Rattle.tp_store.proofs.meet.meet_each.Goals as goal
 
 pub returns-in_err-push-clause-adds : goal.returns-in_err-push-clause-adds
 returns-in_err-push-clause-adds c = both_same (contents_of c.args.chains.now) (contents_of c.args.chains.now) refl
@@ -14,8 +14,8 @@ pairs-init c =
     let old = contents_of c.args.chains.now in
     record {
       chains = c.requires.chains;
-      meeting = subst (IsMeeting old old c.args.from.now.items c.args.base c.args.goal.at c.args.head.at) (sym (ap reverse (c.in_ok-push.ensures.items ∙ ap (λ l. l ++ (c.args.goal, c.args.head) ∷ []) c.new-work.ensures.items)))
-          (meeting_start old c.args.from.now.items c.args.base c.args.goal c.args.head c.requires.chains.store (both_same old old refl) c.requires.goal c.requires.head c.requires.claimed);
+      meeting = subst (IsMeeting old old c.args.from.now.items c.args.base c.args.first.0.at c.args.first.1.at) (sym (ap reverse (c.in_ok-push.ensures.items ∙ ap (λ l. l ++ c.args.first ∷ []) c.clear.ensures.items)))
+          (meeting_start old c.args.from.now.items c.args.base c.args.first.0 c.args.first.1 c.requires.chains.store (both_same old old refl) c.requires.goal c.requires.head c.requires.claimed);
     }
 
 pub returns-in_err-meet-clause-adds : goal.returns-in_err-meet-clause-adds
@@ -36,9 +36,9 @@ returns-then-not-branch-clause-found c =
     let now = contents_of c.pairs.chains in
     let new = contents_of c.meet.new.chains in
     let from = c.args.from.now.items in
-    let i : IsMeeting old now from c.args.base c.args.goal.at c.args.head.at (c.in-Some.pair ∷ reverse c.pop.new.self.items) =
-    subst (IsMeeting old now from c.args.base c.args.goal.at c.args.head.at) (newest_first c.pairs.work.items c.pop.new.self.items c.in-Some.pair c.in-Some.ensures.items) c.pairs.invariant.meeting in
-    meeting_none old now new from c.args.base c.args.goal.at c.args.head.at c.in-Some.pair c.pop.new.self.items c.meet.new.work.items c.pairs.invariant.chains.store i
+    let i : IsMeeting old now from c.args.base c.args.first.0.at c.args.first.1.at (c.in-Some.pair ∷ reverse c.pop.new.self.items) =
+    subst (IsMeeting old now from c.args.base c.args.first.0.at c.args.first.1.at) (newest_first c.pairs.work.items c.pop.new.self.items c.in-Some.pair c.in-Some.ensures.items) c.pairs.invariant.meeting in
+    meeting_none old now new from c.args.base c.args.first.0.at c.args.first.1.at c.in-Some.pair c.pop.new.self.items c.meet.new.work.items c.pairs.invariant.chains.store i
     (subst (Looked now new from c.args.base c.in-Some.pair c.pop.new.self.items c.meet.new.work.items) c.if-not-branch.true c.in_ok-meet.ensures.found)
 
 pub pairs-smaller : goal.pairs-smaller
@@ -48,12 +48,12 @@ pairs-smaller c =
     let new = contents_of c.meet.new.chains in
     let from = c.args.from.now.items in
     let top = newest_first c.pairs.work.items c.pop.new.self.items c.in-Some.pair c.in-Some.ensures.items in
-    let i : IsMeeting old now from c.args.base c.args.goal.at c.args.head.at (c.in-Some.pair ∷ reverse c.pop.new.self.items) =
-    subst (IsMeeting old now from c.args.base c.args.goal.at c.args.head.at) top c.pairs.invariant.meeting in
+    let i : IsMeeting old now from c.args.base c.args.first.0.at c.args.first.1.at (c.in-Some.pair ∷ reverse c.pop.new.self.items) =
+    subst (IsMeeting old now from c.args.base c.args.first.0.at c.args.first.1.at) top c.pairs.invariant.meeting in
     let s : MeetStep now new from c.args.base c.in-Some.pair c.pop.new.self.items c.meet.new.work.items =
     subst (Looked now new from c.args.base c.in-Some.pair c.pop.new.self.items c.meet.new.work.items) c.if-not-branch.false c.in_ok-meet.ensures.found in
     subst (λ ps. heads_size from (reverse c.meet.new.work.items) < heads_size from ps) (sym top)
-    (meeting_smaller old now new from c.args.base c.args.goal.at c.args.head.at c.in-Some.pair c.pop.new.self.items c.meet.new.work.items c.pairs.invariant.chains.store i s)
+    (meeting_smaller old now new from c.args.base c.args.first.0.at c.args.first.1.at c.in-Some.pair c.pop.new.self.items c.meet.new.work.items c.pairs.invariant.chains.store i s)
 
 pub pairs-preserved : goal.pairs-preserved
 pairs-preserved c =
@@ -61,11 +61,11 @@ pairs-preserved c =
     let now = contents_of c.pairs.chains in
     let new = contents_of c.meet.new.chains in
     let from = c.args.from.now.items in
-    let i : IsMeeting old now from c.args.base c.args.goal.at c.args.head.at (c.in-Some.pair ∷ reverse c.pop.new.self.items) =
-    subst (IsMeeting old now from c.args.base c.args.goal.at c.args.head.at) (newest_first c.pairs.work.items c.pop.new.self.items c.in-Some.pair c.in-Some.ensures.items) c.pairs.invariant.meeting in
+    let i : IsMeeting old now from c.args.base c.args.first.0.at c.args.first.1.at (c.in-Some.pair ∷ reverse c.pop.new.self.items) =
+    subst (IsMeeting old now from c.args.base c.args.first.0.at c.args.first.1.at) (newest_first c.pairs.work.items c.pop.new.self.items c.in-Some.pair c.in-Some.ensures.items) c.pairs.invariant.meeting in
     let s : MeetStep now new from c.args.base c.in-Some.pair c.pop.new.self.items c.meet.new.work.items =
     subst (Looked now new from c.args.base c.in-Some.pair c.pop.new.self.items c.meet.new.work.items) c.if-not-branch.false c.in_ok-meet.ensures.found in
     record {
       chains = c.meet.ensures.chains;
-      meeting = meeting_turn old now new from c.args.base c.args.goal.at c.args.head.at c.in-Some.pair c.pop.new.self.items c.meet.new.work.items c.pairs.invariant.chains.store i c.meet.ensures.adds c.meet.ensures.named s;
+      meeting = meeting_turn old now new from c.args.base c.args.first.0.at c.args.first.1.at c.in-Some.pair c.pop.new.self.items c.meet.new.work.items c.pairs.invariant.chains.store i c.meet.ensures.adds c.meet.ensures.named s;
     }

@@ -3,14 +3,14 @@ use Rattle.tp_store.specs.Contents.{Names}
 use Rattle.tp_store.specs.Chain.{contents_of}
 use Rattle.tp_store.specs.Work.{WorkStep, Reduces, unbound_count}
 use Rattle.tp_store.proofs.Unifier.Solutions.{IsSolving, solving_start, solving_bind, solving_ends, never, may_add, unbound_count-bind}
-use Rattle.tp_store.proofs.solve.solve.Goals as goal
+use Rattle.tp_store.proofs.solve.bind_each.Goals as goal
 
 pub bindings-init : goal.bindings-init
 bindings-init c =
     let old = contents_of c.args.chains.now in
     record {
       chains = c.requires.chains;
-      solving = subst (IsSolving old old c.args.left.at c.args.right.at) (sym (c.in_ok-push.ensures.items ∙ ap (λ l. l ++ (c.args.left, c.args.right) ∷ []) c.new-work.ensures.items)) (solving_start old c.args.left c.args.right c.requires.left c.requires.right);
+      solving = subst (IsSolving old old c.args.left.at c.args.right.at) (sym (c.in_ok-push.ensures.items ∙ ap (λ l. l ++ (c.args.left, c.args.right) ∷ []) c.clear.ensures.items)) (solving_start old c.args.left c.args.right c.requires.left c.requires.right);
     }
 
 pub returns-in-Same-clause-yes : goal.returns-in-Same-clause-yes
@@ -49,8 +49,8 @@ bindings-smaller c =
     let i = c.bindings.invariant in
     let now = contents_of c.bindings.chains in
     let red : Reduces now c.bindings.work.items c.next_binding.new.work.items c.in-Bind.number c.in-Bind.place = subst (WorkStep now c.bindings.work.items c.next_binding.new.work.items) c.in-Bind.is c.in_ok-next_binding.ensures in
-    let less = unbound_count-bind c.bindings.chains.bound.items now.pairs c.in-Bind.number c.in-Bind.place i.chains.table red.may.claimed red.may.unbound in
-    subst (λ os. unbound_count os < unbound_count c.bindings.chains.bound.items) (sym c.in_ok-bind-in-Bind.ensures.table) less
+    let less = unbound_count-bind c.bindings.chains.trail.bound now.pairs c.in-Bind.number c.in-Bind.place i.chains.table red.may.claimed red.may.unbound in
+    subst (λ os. unbound_count os < unbound_count c.bindings.chains.trail.bound) (sym c.in_ok-bind-in-Bind.ensures.table) less
 
 pub bindings-preserved : goal.bindings-preserved
 bindings-preserved c =

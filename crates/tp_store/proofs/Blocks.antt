@@ -1,0 +1,3 @@
+-- Copies of terms whose cells stand together.
+pub mod Cells
+pub mod Moved

@@ -1,0 +1,3 @@
+-- Links of variables, and the bindings that they stand for.
+pub mod Links
+pub mod Places
