@@ -50,6 +50,22 @@ fn makes_equal(alloc: Global) -> Result<bool, NoMemory> {
     Ok(base == 0 && equal && store.top(x) == Cell::Atom(A) && store.top(y) == Cell::Atom(B))
 }
 
+/// Whether the block of `f(X, b)` shows `f(X, b)`.
+fn moves(alloc: Global) -> Result<bool, NoMemory> {
+    let mut head = Cells::new(alloc);
+    let first = head.push(Cell::Var(0))?;
+    head.push(Cell::Atom(B))?;
+    let root = head.push(Cell::Comp {
+        name: F,
+        first,
+        count: 2,
+    })?;
+    let mut store = Store::new(alloc);
+    let base = store.claim(1)?;
+    let copy = store.block(&head, root, 0)?;
+    Ok(base == 0 && shows_pair(&store, copy, Cell::Var(0), Cell::Atom(B)))
+}
+
 /// Whether a question binds nothing.
 fn asks(alloc: Global) -> Result<bool, NoMemory> {
     let mut store = Store::new(alloc);
@@ -133,6 +149,7 @@ fn copies(alloc: Global) -> Result<bool, NoMemory> {
 #[test]
 fn each_call_once(rt: HostRuntime) -> Result<(), Fail> {
     assert!(rt; makes_equal(rt.alloc())?);
+    assert!(rt; moves(rt.alloc())?);
     assert!(rt; asks(rt.alloc())?);
     assert!(rt; takes_back(rt.alloc())?);
     assert!(rt; goes_back(rt.alloc())?);
