@@ -14,7 +14,7 @@ ghost use Rattle.tp_parse.specs.Texts.{Found};
 ghost use Rattle.tp_clauses.specs.Contents.{AreBelow, AreNameable, HasNames};
 ghost use Rattle.tp_clauses.specs.Kinds.{head_key, key_of, read_as};
 ghost use Rattle.tp_clauses.specs.Loaded.{AsksMemory};
-ghost use Rattle.tp_clauses.specs.Model.{OfClause, by_token, cause_of, kind_of, model_from, most_terms, rule, with_head};
+ghost use Rattle.tp_clauses.specs.Model.{OfClause, by_token, cause_of, kind_of, model_from, most_terms, rule as rule_of, with_head};
 ghost use Rattle.tp_clauses.specs.Parts.{IsParts};
 ghost use Rattle.tp_clauses.specs.Told.{IsNoInteger, MayDefine, MayTake, TellsBegin, TellsEnd, TellsToken, TellsParts, TellsRead, TellsStep, TellsTerm, outcome};
 
@@ -29,6 +29,17 @@ use tp_lex::{LexFault, Token, next_token};
 use tp_parse::{ReadCause, ReadFault, ReadTerm, read_clause};
 use tp_terms::symbols::INF;
 use tp_terms::{Atoms, Cell, Cells, NoMemory, Ref};
+
+/// A clause with a head and a body, in some cells.
+#[derive(Clone, Copy)]
+struct Rule {
+    /// The place of its head.
+    head: Ref,
+    /// The place of its body.
+    body: Ref,
+    /// How many variables it has, numbered from 0.
+    vars: u64,
+}
 
 /// The most read terms of a text, directives counted.
 const MOST_TERMS: u64 = 1_000_000;
@@ -58,7 +69,7 @@ pub fn load_text(alloc: Global, text: &str, atoms: &mut Atoms) -> Result<Parts, 
     };
     let mut at = 0;
     'terms: for before in 0..MOST_TERMS {
-        match read_next(&mut parts, alloc, text, at, before + 1, atoms) {
+        match read_next(&mut parts, text, at, before + 1, atoms) {
             Ok(Some(to)) => at = to,
             Ok(None) => return Ok(parts),
             Err(fault) => return Err(fault),
@@ -124,7 +135,6 @@ fn refused(number: u64, byte: usize, cause: Cause) -> LoadFault
 /// remains.
 fn read_next(
     parts: &mut Parts,
-    alloc: Global,
     text: &str,
     at: usize,
     number: u64,
@@ -137,11 +147,12 @@ fn read_next(
     ensures grows { Grows atoms.old atoms.new }
     ensures memory { result ≡ Err LoadFault.NoMemory → is_ok (next text.now at) ≡ true }
 {
+    let alloc = *parts.clauses.allocator();
     match read_clause(alloc, text, at, &parts.ops, atoms) {
         Ok(None) => Ok(None),
         Ok(Some(read)) => {
             let to = read.to;
-            match take_read(parts, alloc, read, number, atoms) {
+            match take_read(parts, read, number, atoms) {
                 Ok(()) => Ok(Some(to)),
                 Err(fault) => Err(fault),
             }
@@ -166,13 +177,7 @@ fn cause_of(cause: ReadCause) -> Cause
 }
 
 /// Takes a read term, whose cells are dropped.
-fn take_read(
-    parts: &mut Parts,
-    alloc: Global,
-    read: ReadTerm,
-    number: u64,
-    atoms: &Atoms,
-) -> Result<(), LoadFault>
+fn take_read(parts: &mut Parts, read: ReadTerm, number: u64, atoms: &Atoms) -> Result<(), LoadFault>
     requires parts { IsParts parts.old }
     requires within { (read.root).at < length (read.cells).items }
     requires named { AreNamed (length atoms.now) (read.cells).items }
@@ -187,8 +192,8 @@ fn take_read(
     let cells = read.cells;
     let (places, known) = (cells.len(), atoms.len());
     prove!(root.at < places);
-    prove!(INF.at < known);
-    match take_term(parts, alloc, &cells, root, vars, atoms) {
+    prove!((INF.at as usize) < known);
+    match take_term(parts, &cells, root, vars, atoms) {
         Ok(()) => Ok(()),
         Err(TermFault::NoMemory) => Err(LoadFault::NoMemory),
         Err(TermFault::Refused(cause)) => Err(refused(number, from, cause)),
@@ -198,7 +203,6 @@ fn take_read(
 /// Takes the term of a place.
 fn take_term(
     parts: &mut Parts,
-    alloc: Global,
     cells: &Cells,
     root: Ref,
     vars: u64,
@@ -220,19 +224,13 @@ fn take_term(
         ReadKind::Directive { goal } => run(cells, goal, atoms, &mut parts.ops),
         ReadKind::Query => Err(TermFault::Refused(Cause::Directive)),
         ReadKind::Grammar => Err(TermFault::Refused(Cause::Grammar)),
-        ReadKind::Rule { head, body } => take_rule(parts, alloc, cells, head, body, vars),
-        ReadKind::Fact => take_fact(parts, alloc, cells, root, vars),
+        ReadKind::Rule { head, body } => take_rule(parts, cells, Rule { head, body, vars }),
+        ReadKind::Fact => take_fact(parts, cells, root, vars),
     }
 }
 
 /// Takes a clause that is a head alone.
-fn take_fact(
-    parts: &mut Parts,
-    alloc: Global,
-    cells: &Cells,
-    head: Ref,
-    vars: u64,
-) -> Result<(), TermFault>
+fn take_fact(parts: &mut Parts, cells: &Cells, head: Ref, vars: u64) -> Result<(), TermFault>
     requires parts { IsParts parts.old }
     requires within { head.at < length cells.now.items }
     requires built { AreBuilt cells.now.items }
@@ -252,7 +250,7 @@ fn take_fact(
                 body: None,
                 vars,
             };
-            add_clause(parts, alloc, view, key)?;
+            add_clause(parts, view, key)?;
             Ok(())
         }
         Err(cause) => Err(TermFault::Refused(cause)),
@@ -260,77 +258,62 @@ fn take_fact(
 }
 
 /// Takes a clause with a head and a body.
-fn take_rule(
-    parts: &mut Parts,
-    alloc: Global,
-    cells: &Cells,
-    head: Ref,
-    body: Ref,
-    vars: u64,
-) -> Result<(), TermFault>
+fn take_rule(parts: &mut Parts, cells: &Cells, rule: Rule) -> Result<(), TermFault>
     requires parts { IsParts parts.old }
-    requires head { head.at < length cells.now.items }
-    requires body { body.at < length cells.now.items }
+    requires head { rule.head.at < length cells.now.items }
+    requires body { rule.body.at < length cells.now.items }
     requires built { AreBuilt cells.now.items }
     requires nameable { AreNameable parts.old.store.cells cells.now.items }
-    requires head_below { AreBelow cells.now.items vars head }
-    requires body_below { AreBelow cells.now.items vars body }
+    requires head_below { AreBelow cells.now.items rule.vars rule.head }
+    requires body_below { AreBelow cells.now.items rule.vars rule.body }
     ensures told { (names : List Name) → HasNames names cells.now.items →
         AreNamed (length names) parts.old.store.cells →
         TellsTerm names parts.old parts.new result
         (outcome (table_of parts.old.ops)
-        (OfClause (rule (shows names cells.now.items head.at)
-        (shows names cells.now.items body.at) vars))) }
+        (OfClause (rule_of (shows names cells.now.items rule.head.at)
+        (shows names cells.now.items rule.body.at) rule.vars))) }
     ensures memory { result ≡ Err TermFault.NoMemory →
-        MayDefine cells.now.items head × IsNoInteger (slice_get cells.now.items body.at) }
+        MayDefine cells.now.items rule.head × IsNoInteger (slice_get cells.now.items rule.body.at) }
 {
-    match head_key(cells, head) {
-        Ok(key) => take_body(parts, alloc, cells, head, body, vars, key),
+    match head_key(cells, rule.head) {
+        Ok(key) => take_body(parts, cells, rule, key),
         Err(cause) => Err(TermFault::Refused(cause)),
     }
 }
 
 /// Takes a clause whose head defines a key.
-fn take_body(
-    parts: &mut Parts,
-    alloc: Global,
-    cells: &Cells,
-    head: Ref,
-    body: Ref,
-    vars: u64,
-    key: Key,
-) -> Result<(), TermFault>
+fn take_body(parts: &mut Parts, cells: &Cells, rule: Rule, key: Key) -> Result<(), TermFault>
     requires parts { IsParts parts.old }
-    requires head { head.at < length cells.now.items }
-    requires body { body.at < length cells.now.items }
+    requires head { rule.head.at < length cells.now.items }
+    requires body { rule.body.at < length cells.now.items }
     requires built { AreBuilt cells.now.items }
-    requires key { key_of (slice_get cells.now.items head.at) ≡ Some key }
+    requires key { key_of (slice_get cells.now.items rule.head.at) ≡ Some key }
     requires free { (names : List Name) → HasNames names cells.now.items →
-        head_key names (slice_get cells.now.items head.at) ≡ Ok key }
+        head_key names (slice_get cells.now.items rule.head.at) ≡ Ok key }
     requires nameable { AreNameable parts.old.store.cells cells.now.items }
-    requires head_below { AreBelow cells.now.items vars head }
-    requires body_below { AreBelow cells.now.items vars body }
+    requires head_below { AreBelow cells.now.items rule.vars rule.head }
+    requires body_below { AreBelow cells.now.items rule.vars rule.body }
     ensures told { (names : List Name) → HasNames names cells.now.items →
         AreNamed (length names) parts.old.store.cells →
         TellsTerm names parts.old parts.new result
         (outcome (table_of parts.old.ops)
-        (OfClause (rule (shows names cells.now.items head.at)
-        (shows names cells.now.items body.at) vars))) }
+        (OfClause (rule_of (shows names cells.now.items rule.head.at)
+        (shows names cells.now.items rule.body.at) rule.vars))) }
     ensures memory { result ≡ Err TermFault.NoMemory →
-        IsNoInteger (slice_get cells.now.items body.at) }
+        IsNoInteger (slice_get cells.now.items rule.body.at) }
 {
-    if let Cell::Int(_) = cells.get(body) {
+    if let Cell::Int(_) = cells.get(rule.body) {
         return Err(TermFault::Refused(Cause::Body));
     }
     let by = add_cells(parts, cells)?;
-    match body_of(parts, place_on(body, by))? {
+    match body_of(parts, place_on(rule.body, by))? {
         Some(place) => {
             let view = ClauseView {
-                head: place_on(head, by),
+                head: place_on(rule.head, by),
                 body: Some(place),
-                vars,
+                vars: rule.vars,
             };
-            add_clause(parts, alloc, view, key)?;
+            add_clause(parts, view, key)?;
             Ok(())
         }
         None => Err(TermFault::Refused(Cause::Body)),

@@ -69,12 +69,7 @@ pub fn body_of(parts: &mut Parts, term: Ref) -> Result<Option<Ref>, NoMemory>
 }
 
 /// Adds a clause whose cells stand. Want of memory may leave some of it.
-pub fn add_clause(
-    parts: &mut Parts,
-    alloc: Global,
-    view: ClauseView,
-    key: Key,
-) -> Result<(), NoMemory>
+pub fn add_clause(parts: &mut Parts, view: ClauseView, key: Key) -> Result<(), NoMemory>
     requires parts { IsParts parts.old }
     requires fits { ViewFits parts.old.store.cells view }
     requires key { key_of (slice_get parts.old.store.cells (view.head).at) ≡ Some key }
@@ -83,6 +78,7 @@ pub fn add_clause(
     let id = ClauseId {
         at: parts.clauses.len(),
     };
+    let alloc = *parts.clauses.allocator();
     let rank = parts.index.add(alloc, key, id)?;
     parts.ranks.push(rank)?;
     parts.clauses.push(view)?;

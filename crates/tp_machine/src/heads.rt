@@ -75,6 +75,6 @@ pub fn try_head(
     let Some(body) = clause.body else {
         return Ok(Head::Met(None));
     };
-    let body = state.store.instance(cells, body, base)?;
+    let body = state.store.block(cells, body, base)?;
     Ok(Head::Met(Some(body)))
 }

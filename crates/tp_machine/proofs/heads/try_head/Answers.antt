@@ -44,10 +44,10 @@ returns-clause-tried c = record {
       entered_some names c.args.goal.at c.args.cells.now.items t old c.claim.new.self new _ _ vars c.in_ok-base.base c.in_ok-met.met
       c.in_ok-base.ensures.first (c.in_ok-met.ensures.found names (claimed_names names old c.claim.new.self t.vars vars h) named)
       c.unify_head.ensures.logged (c.in_ok-met.ensures.terms names) new_named
-      c.instance.new.self c.in-Some.body c.in_ok-body.body c.in_ok-body.ensures.adds c.in_ok-body.ensures.keeps c.in-Some.is (c.in_ok-body.ensures.shown names) c.in_ok-body.ensures.place (c.in_ok-body.ensures.named (length names) named new_named);
+      c.block.new.self c.in-Some.body c.in_ok-body.body c.in_ok-body.ensures.adds c.in_ok-body.ensures.keeps c.in-Some.is (c.in_ok-body.ensures.shown names) c.in_ok-body.ensures.place (c.in_ok-body.ensures.named (length names) named new_named);
   plain = refl;
-  follows = store-follows (held_of c.args.state.now) c.instance.new.self _
-      (grows_some c.args.state.now.store c.claim.new.self c.unify_head.new.self c.instance.new.self _ _ c.args.clause.vars c.in_ok-base.ensures.value c.unify_head.ensures.logged c.in_ok-body.ensures.adds);
-  store = c.instance.ensures.store;
+  follows = store-follows (held_of c.args.state.now) c.block.new.self _
+      (grows_some c.args.state.now.store c.claim.new.self c.unify_head.new.self c.block.new.self _ _ c.args.clause.vars c.in_ok-base.ensures.value c.unify_head.ensures.logged c.in_ok-body.ensures.adds);
+  store = c.block.ensures.store;
   same = refl;
 }

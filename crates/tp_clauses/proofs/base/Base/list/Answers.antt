@@ -4,9 +4,14 @@ use Rattle.tp_clauses.specs.Candidates.{HasLists}
 use Rattle.tp_clauses.specs.Contents.{Contents, places_of}
 use Rattle.tp_clauses.specs.First.{may_match}
 use Rattle.tp_clauses.specs.declared.base.ClauseId.{ClauseId}
-use Rattle.tp_clauses.proofs.Lists.Chosen.{chosen_any, chosen_first}
+use Rattle.tp_clauses.proofs.Lists.Chosen.{chosen_any, chosen_first, chosen_own}
 use Rattle.tp_clauses.proofs.Lists.Merged.{first_within}
 use Rattle.tp_clauses.proofs.base.Base.list.Goals as goal
+
+pub returns-in-Some : goal.returns-in-Some
+returns-in-Some c =
+    chosen_own c.args.self.now c.self.inside.candidates (subst (λ (b : Contents). HasLists b c.self.inside.candidates) c.self.view_is c.self.invariant.1) c.args.key c.args.first c.requires.first c.in-Some.list.now
+    (sym c.in-Some.ensures)
 
 pub returns-in-Some-list : goal.returns-in-Some-list
 returns-in-Some-list c =
