@@ -42,6 +42,17 @@ pub enum EndLine {
     Budget,
 }
 
+/// Dead ends by their causes.
+#[derive(Clone, Copy)]
+struct DeadEnds {
+    /// Steps that failed.
+    failed: u64,
+    /// Steps that found every live process waiting.
+    deadlock: u64,
+    /// Steps that found a live process past its end time.
+    late: u64,
+}
+
 /// Adds the line of a run that ended in this way.
 fn add_end(how: &str, steps: u64, out: &mut String) -> Result<(), NoMemory>
     ensures added { Adds out.old out.new result (ended_line (chars how.now) steps) }
@@ -58,16 +69,9 @@ fn add_end(how: &str, steps: u64, out: &mut String) -> Result<(), NoMemory>
 }
 
 /// Adds the line of a run that left nothing to search, with its dead ends by their causes.
-fn add_counts(
-    how: &str,
-    steps: u64,
-    failed: u64,
-    deadlock: u64,
-    late: u64,
-    out: &mut String,
-) -> Result<(), NoMemory>
+fn add_counts(how: &str, steps: u64, dead: DeadEnds, out: &mut String) -> Result<(), NoMemory>
     ensures added { Adds out.old out.new result
-        (searched_line (chars how.now) steps failed deadlock late) }
+        (searched_line (chars how.now) steps dead.failed dead.deadlock dead.late) }
 {
     add_pieces(
         &[
@@ -75,11 +79,11 @@ fn add_counts(
             Piece::Text(" after "),
             Piece::Count(steps),
             Piece::Text(" steps: "),
-            Piece::Count(failed),
+            Piece::Count(dead.failed),
             Piece::Text(" failed "),
-            Piece::Count(deadlock),
+            Piece::Count(dead.deadlock),
             Piece::Text(" deadlock "),
-            Piece::Count(late),
+            Piece::Count(dead.late),
             Piece::Text(" late\n"),
         ],
         out,
@@ -117,12 +121,26 @@ pub fn end_text(end: &EndLine, steps: u64, out: &mut String) -> Result<(), NoMem
             failed,
             deadlock,
             late,
-        } => add_counts("no more", steps, *failed, *deadlock, *late, out),
+        } => {
+            let dead = DeadEnds {
+                failed: *failed,
+                deadlock: *deadlock,
+                late: *late,
+            };
+            add_counts("no more", steps, dead, out)
+        },
         EndLine::No {
             failed,
             deadlock,
             late,
-        } => add_counts("no", steps, *failed, *deadlock, *late, out),
+        } => {
+            let dead = DeadEnds {
+                failed: *failed,
+                deadlock: *deadlock,
+                late: *late,
+            };
+            add_counts("no", steps, dead, out)
+        },
         EndLine::Raised { term, clock } => add_raised(term, *clock, steps, out),
         EndLine::Budget => add_end("budget", steps, out),
     }

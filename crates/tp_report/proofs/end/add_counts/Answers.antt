@@ -8,5 +8,5 @@ unfolding chars
 returns c = record {
   added =
       Adds-as c.add_pieces.result c.args.out.now c.add_pieces.new.out _ _
-      (searched-pieces (chars c.args.how.now) c.args.steps c.args.failed c.args.deadlock c.args.late) c.add_pieces.ensures.added;
+      (searched-pieces (chars c.args.how.now) c.args.steps c.args.dead.failed c.args.dead.deadlock c.args.dead.late) c.add_pieces.ensures.added;
 }
