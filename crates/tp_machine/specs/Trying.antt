@@ -1,7 +1,8 @@
 -- The clauses that a goal is tried with, one after another.
-use Rattle.std.specs.Prelude.{◌≡◌, ℕ, ◌<◌, Bool, false, List, drop, filter, length, slice_get, Option, Some, None}
+use Rattle.std.specs.Prelude.{◌≡◌, ℕ, ◌<◌, Bool, false, List, [], ◌∷◌, ◌++◌, drop, filter, length, slice_get, Option, Some, None}
 use Rattle.std.specs.Option.{option_map, option_map_or}
 use Rattle.tp_terms.specs.declared.cells.Ref.{Ref}
+use Rattle.tp_control.specs.declared.choices.Choice.{Choice}
 use Rattle.tp_meaning.specs.Clauses.{Clause}
 use Rattle.tp_clauses.specs.declared.base.ClauseId.{ClauseId}
 use Rattle.tp_clauses.specs.Contents.{clause_of, places_of}
@@ -47,6 +48,23 @@ pub record StillTries (m : Machine) (t : Task) (ids : List ClauseId) : Type 0 wh
   pub calls : Calls m t call None
   pub from : ℕ
   pub rest : AreTried m t call from ids
+
+-- the clauses that a goal is tried with, from the first on
+pub record TriesAll (m : Machine) (t : Task) (ids : List ClauseId) : Type 0 where
+  pub call : Call
+  pub calls : Calls m t call None
+  pub all : AreTried m t call 0 ids
+
+-- those behind the first, which has no unifier with the goal
+pub record MissesFirst (m : Machine) (t : Task) (ids : List ClauseId) : Type 0 where
+  pub first : ClauseId
+  pub tries : TriesAll m t (first ∷ ids)
+  pub misses : hits_at m t.goal first ≡ false
+
+-- a choice was kept where a clause was found, and else none
+abbrev pub HasPushed : Option ℕ → List Choice → List Choice → Type 0
+HasPushed None old new = new ≡ old
+HasPushed (Some next) old new = (c : Choice) × (new ≡ old ++ c ∷ [])
 
 -- a clause of a goal is the one of this place among all of them
 pub record IsPlaced (m : Machine) (t : Task) (c : Call) (place : ℕ) (id : ClauseId) : Type 0 where

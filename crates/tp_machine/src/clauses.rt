@@ -1,6 +1,8 @@
 //! Goals that clauses define.
 
-ghost use Rattle.std.specs.Prelude.{◌≡◌, ℕ, ◌+◌, ◌<◌, [], ◌∷◌, true, false, Ok, Some, None, IfOk, OnOk, OnErr, length};
+ghost use Rattle.std.specs.Prelude.{◌≡◌, ℕ, List, ◌+◌, ◌<◌, ◌∷◌, true, false, Ok, Some, None, IfOk, IfSome, OnOk, OnErr, length};
+ghost use Rattle.std.specs.List.{position_from};
+ghost use Rattle.tp_control.specs.declared.choices.Choice.{Choice};
 ghost use Rattle.tp_machine.specs.declared.task.Call.{Call};
 
 use crate::errors::Cause;
@@ -19,7 +21,7 @@ impl<'a> Machine<'a> {
     ghost use Rattle.tp_machine.specs.Machine.{IsMachine, SameProgram, Steps, Resumes};
     ghost use Rattle.tp_machine.specs.Meets.{Calls, IsCurrent, Meets};
     ghost use Rattle.tp_machine.specs.Goes.{IsKept, Enters, Returns};
-    ghost use Rattle.tp_machine.specs.Trying.{AreTried, IsPlaced, StillTries, hits_at};
+    ghost use Rattle.tp_machine.specs.Trying.{AreTried, HasPushed, IsPlaced, MissesFirst, StillTries, TriesAll, hits_at};
 
     /// A goal goes on with the first of its clauses that has a unifier with it, and a choice is
     /// kept where another one has.
@@ -32,29 +34,93 @@ impl<'a> Machine<'a> {
         let Some(ids) = self.candidates(call) else {
             return self.raise(task, Cause::Unknown(call.name, call.count));
         };
-        if ids.len() == 1 {
-            return self.run_only(task, ids[0]);
-        }
-        let Some(first) = self.next_match(task.goal, ids)? else {
+        if ids.is_empty() {
             return Ok(Stepped::Dead(DeadCause::Failed));
-        };
-        self.keep_clauses(task, &ids[first + 1..])?;
-        self.enter(task, ids[first])?;
-        Ok(Stepped::Went)
+        }
+        self.run_first(task, ids[0], &ids[1..])
     }
 
-    /// A goal goes on with the only clause that may have a unifier with it.
-    fn run_only(&mut self, task: Task, id: ClauseId) -> Result<Stepped, NoMemory>
+    /// A goal goes on with a clause, and a choice is kept where one of the others has a unifier with
+    /// it; where the clause has none, it goes on with the first of the others that has.
+    fn run_first(
+        &mut self,
+        task: Task,
+        id: ClauseId,
+        others: &[ClauseId],
+    ) -> Result<Stepped, NoMemory>
         requires machine { IsMachine self.old }
-        requires tries { StillTries self.old task (id ∷ []) }
-        ensures done { IfOk result (λ stepped. (call : Call) → Calls self.old task call None →
-            AreTried self.old task call 0 (id ∷ []) → Steps self.old self.new stepped) }
+        requires tries { TriesAll self.old task (id ∷ others.now) }
+        ensures done { IfOk result (Steps self.old self.new) }
         ensures program { OnErr result (SameProgram self.old self.new) }
     {
+        let next = self.next_match(task.goal, others)?;
+        self.keep_found(task, others, next)?;
         if self.enter(task, id)? {
-            Ok(Stepped::Went)
-        } else {
-            Ok(Stepped::Dead(DeadCause::Failed))
+            return Ok(Stepped::Went);
+        }
+        self.let_go(next);
+        self.run_behind(task, others, next)
+    }
+
+    /// A goal whose first clause has no unifier with it goes on with the first of the others that
+    /// has one, and a choice is kept where another one has.
+    fn run_behind(
+        &mut self,
+        task: Task,
+        others: &[ClauseId],
+        next: Option<usize>,
+    ) -> Result<Stepped, NoMemory>
+        requires machine { IsMachine self.old }
+        requires misses { MissesFirst self.old task others.now }
+        requires found { next ≡ position_from (hits_at self.old task.goal) 0 others.now }
+        requires within { IfSome next (λ k. k < length others.now) }
+        ensures done { IfOk result (Steps self.old self.new) }
+        ensures program { OnErr result (SameProgram self.old self.new) }
+    {
+        match next {
+            None => Ok(Stepped::Dead(DeadCause::Failed)),
+            Some(next) => {
+                self.keep_clauses(task, &others[next + 1..])?;
+                self.enter(task, others[next])?;
+                Ok(Stepped::Went)
+            }
+        }
+    }
+
+    /// Keeps a choice of that one of some clauses which is the first to have a unifier with the
+    /// goal, where there is one.
+    fn keep_found(
+        &mut self,
+        task: Task,
+        ids: &[ClauseId],
+        next: Option<usize>,
+    ) -> Result<(), NoMemory>
+        requires machine { IsMachine self.old }
+        requires tries { StillTries self.old task ids.now }
+        requires found { next ≡ position_from (hits_at self.old task.goal) 0 ids.now }
+        requires within { IfSome next (λ k. k < length ids.now) }
+        ensures done { OnOk result ((call : Call) (from : ℕ) → Calls self.old task call None →
+            AreTried self.old task call from ids.now → IsKept self.old (Alt.Clause from) self.new) }
+        ensures same { OnOk result
+            (self.new ≡ record self.old { choices = self.new.choices }) }
+        ensures pushed { OnOk result (HasPushed next self.old.choices self.new.choices) }
+        ensures program { OnErr result (SameProgram self.old self.new) }
+    {
+        if let Some(next) = next {
+            let place = self.base.place(ids[next]);
+            self.keep(Alt::Clause(place))?;
+        }
+        Ok(())
+    }
+
+    /// Lets the choice go that was kept last, where one was. Takes no memory.
+    fn let_go(&mut self, next: Option<usize>)
+        ensures same { self.new ≡ record self.old { choices = self.new.choices } }
+        ensures back { (older : List Choice) → HasPushed next older self.old.choices →
+            self.new.choices ≡ older }
+    {
+        if next.is_some() {
+            self.choices.pop();
         }
     }
 
@@ -68,14 +134,8 @@ impl<'a> Machine<'a> {
             (self.new ≡ record self.old { choices = self.new.choices }) }
         ensures program { OnErr result (SameProgram self.old self.new) }
     {
-        match self.next_match(task.goal, ids)? {
-            Some(next) => {
-                let place = self.base.place(ids[next]);
-                self.keep(Alt::Clause(place))?;
-                Ok(())
-            }
-            None => Ok(()),
-        }
+        let next = self.next_match(task.goal, ids)?;
+        self.keep_found(task, ids, next)
     }
 
     /// Replaces a goal by the body of a clause, where its head has a unifier with the goal; else

@@ -1,6 +1,7 @@
 //! The items of the running process.
 
-ghost use Rattle.std.specs.Prelude.{OnErr, ◌≡◌, ℕ, List, Some, None, IfOk, OnOk, take};
+ghost use Rattle.std.specs.Prelude.{OnErr, ◌≡◌, ◌++◌, ◌∷◌, [], ℕ, List, Some, None, IfOk, OnOk, take};
+ghost use Rattle.tp_control.specs.declared.choices.Choice.{Choice};
 ghost use Rattle.tp_control.specs.declared.frames.Item.{Item};
 
 use crate::machine::Machine;
@@ -127,6 +128,8 @@ impl<'a> Machine<'a> {
     pub(crate) fn keep(&mut self, next: Alt) -> Result<(), NoMemory>
         requires { MayKeep self.old next }
         ensures done { OnOk result (IsKept self.old next self.new) }
+        ensures pushed { OnOk result
+            ((choice : Choice) × (self.new.choices ≡ self.old.choices ++ choice ∷ [])) }
         ensures program { OnErr result (SameProgram self.old self.new) }
     {
         let marks = self.state.marks();

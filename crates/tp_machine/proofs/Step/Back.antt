@@ -24,7 +24,7 @@ use Rattle.tp_machine.specs.Untried.{untried}
 use Rattle.tp_control.specs.Lists.{items_at}
 use Rattle.tp_machine.specs.Heads.{hits}
 use Rattle.tp_machine.specs.Machine.{IsHit, Resumes, base_in, world_in}
-use Rattle.tp_machine.specs.Meets.{Calls, Hits, HasCurrent, IsCall}
+use Rattle.tp_machine.specs.Meets.{Calls, Hits, HasCurrent, IsCall, Meets, clauses_of}
 use Rattle.tp_machine.specs.Goes.{IsKept, Enters, Returns, untried_in}
 use Rattle.tp_machine.proofs.Step.First.{standing}
 use Rattle.tp_machine.proofs.Step.Parts.{resumes}
@@ -86,34 +86,36 @@ module _ (m mid : Machine) (next : _) (k : IsKept m next mid) where
   untried-same n =
       ap (λ (x : Machine). untried (base_of x.atoms x.base.now) (world_of x.atoms (plain_of x.state) x.stamp) n) k.same
 
-  pub hits_kept : (t : Task) (c : Call) (place : ℕ) → Hits m t c place → Hits mid t c place
-  hits_kept t c place h = subst (λ (x : Machine). Hits x t c place) (sym k.same) (at_state m.state mid.choices refl)
+  -- the running process meets the same goal
+  pub meets_kept : (t : Task) → Meets m t → Meets mid t
+  meets_kept t f = subst (λ (x : Machine). Meets x t) (sym k.same) (at_state m.state mid.choices refl)
     where
-      at_state : (s : State) (cs : List Choice) → plain_of s ≡ plain_of m.state → Hits (record m { state = s; choices = cs }) t c place
-      at_state s cs e =
-          let f = h.calls.meets in
-          record {
-            calls = record {
-              meets = record {
-                standing = record {
-                  program = record { table = f.standing.program.table; base = f.standing.program.base; named = f.standing.program.named; goal = f.standing.program.goal };
-                  stands = subst (PlainStands m.atoms) (sym e) f.standing.stands;
-                  valid = subst (λ (p : Plain). Valid (world_of m.atoms p m.stamp)) (sym e) f.standing.valid;
-                };
-                running = ap (λ (p : Plain). p.running) e ∙ f.running;
-                few = f.few;
-                list = subst (λ (p : Plain). items_at p.frames p.items ≡ Goal t.goal t.barrier ∷ items_at p.frames t.rest) (sym e) f.list;
-                stands = subst (λ (p : Plain). t.goal.at < length p.store.cells) (sym e) f.stands;
-                rest = subst (λ (p : Plain). IfSome t.rest (λ i. i.at < length p.frames)) (sym e) f.rest;
-              };
-              call = subst (λ (p : Plain). IsCall m.atoms p.store t.goal c) (sym e) h.calls.call;
-              kind = h.calls.kind;
-            };
-            clause = h.clause;
-            more = h.more;
-            here = h.here;
-            hit = subst (λ (p : Plain). hits m.atoms p.store t.goal.at h.clause ≡ true) (sym e) h.hit;
-          }
+      at_state : (s : State) (cs : List Choice) → plain_of s ≡ plain_of m.state → Meets (record m { state = s; choices = cs }) t
+      at_state s cs e = record {
+        standing = record {
+          program = record { table = f.standing.program.table; base = f.standing.program.base; named = f.standing.program.named; goal = f.standing.program.goal };
+          stands = subst (PlainStands m.atoms) (sym e) f.standing.stands;
+          valid = subst (λ (p : Plain). Valid (world_of m.atoms p m.stamp)) (sym e) f.standing.valid;
+        };
+        running = ap (λ (p : Plain). p.running) e ∙ f.running;
+        few = f.few;
+        list = subst (λ (p : Plain). items_at p.frames p.items ≡ Goal t.goal t.barrier ∷ items_at p.frames t.rest) (sym e) f.list;
+        stands = subst (λ (p : Plain). t.goal.at < length p.store.cells) (sym e) f.stands;
+        rest = subst (λ (p : Plain). IfSome t.rest (λ i. i.at < length p.frames)) (sym e) f.rest;
+      }
+
+  pub hits_kept : (t : Task) (c : Call) (place : ℕ) → Hits m t c place → Hits mid t c place
+  hits_kept t c place h = record {
+    calls = record {
+      meets = meets_kept t h.calls.meets;
+      call = subst (λ (x : Machine). IsCall x.atoms x.state.store t.goal c) (sym k.same) h.calls.call;
+      kind = subst (λ (x : Machine). goal_kind (name_at x.atoms c.name.at) c.count ≡ None) (sym k.same) h.calls.kind;
+    };
+    clause = h.clause;
+    more = h.more;
+    here = subst (λ (x : Machine). drop place (clauses_of x c) ≡ h.clause ∷ h.more) (sym k.same) h.here;
+    hit = subst (λ (x : Machine). hits x.atoms x.state.store t.goal.at h.clause ≡ true) (sym k.same) h.hit;
+  }
 
 pub resumes_clause : (m mid new : Machine) (place : ℕ) → Returns m (alt.Clause place) → IsKept m (alt.Clause (place + 1)) mid → Enters mid place new → Resumes (record m { waiting = Some (alt.Clause place) }) new
 resumes_clause m mid new place back k e =

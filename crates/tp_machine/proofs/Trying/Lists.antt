@@ -1,7 +1,7 @@
 -- Lists of which some elements are left out that fail a test: where the test holds first.
 use Rattle.std.proofs.Common.{◌≡◌, ℕ, zero, suc, ◌+◌, ◌-◌, ◌<◌, ◌≤◌, Bool, true, false, cond, not, List, [], ◌∷◌, map, drop, filter, slice_get, Option, Some, None, refl, ap, sym, ◌∙◌, arith, if◌then◌else◌}
 use Rattle.std.specs.List.{position_from}
-use Rattle.std.specs.Option.{option_map_or}
+use Rattle.std.specs.Option.{option_map, option_map_or}
 
 module _ {A : Type 0} (tried hit : A → Bool) (others : (x : A) → tried x ≡ false → hit x ≡ false) where
   -- where no element that is left passes, none does
@@ -140,3 +140,21 @@ filter-split p zero (x ∷ xs) front back =
 filter-split p (suc n) (x ∷ xs) front back =
     filter-split p n xs (λ k y lt e. front (suc k) y (omega arith) e) (λ k y le e. back (suc k) y (omega arith) e)
     ∙ sym (ap (λ b. if not b then x ∷ filter (λ y. not (p y)) xs else filter (λ y. not (p y)) xs) (front 0 x (omega arith) refl))
+
+-- where a list passes first, from a number on and from the next one on
+pub position-shift : {A : Type 0} (t : A → Bool) (i j : ℕ) (xs : List A) → j ≡ i + 1 → position_from t j xs ≡ option_map suc (position_from t i xs)
+position-shift t i j [] e = refl
+position-shift {A} t i j (x ∷ xs) e = go (t x) (position-shift t (i + 1) (j + 1) xs (omega (arith, e)))
+  where
+    go : (b : Bool) → position_from t (j + 1) xs ≡ option_map suc (position_from t (i + 1) xs) → cond b (Some j) (position_from t (j + 1) xs) ≡ option_map suc (cond b (Some i) (position_from t (i + 1) xs))
+    go true ih = ap Some (let z : j ≡ suc i = omega (arith, e) in z)
+    go false ih = ih
+
+-- what is behind the first element that is left is left of what is behind some place
+pub filter-rest : {A : Type 0} (p : A → Bool) (xs : List A) (x : A) (ys : List A) → x ∷ ys ≡ filter p xs → (n : ℕ) × (ys ≡ filter p (drop n xs))
+filter-rest p [] x ys e = absurd (cc)
+filter-rest {A} p (z ∷ zs) x ys e = go (p z) e (λ f. filter-rest p zs x ys f)
+  where
+    go : (b : Bool) → x ∷ ys ≡ (if b then z ∷ filter p zs else filter p zs) → (x ∷ ys ≡ filter p zs → (n : ℕ) × (ys ≡ filter p (drop n zs))) → (n : ℕ) × (ys ≡ filter p (drop n (z ∷ zs)))
+    go true f rest = (1, let tail : ys ≡ filter p zs = cc in tail)
+    go false f rest = let r = rest f in (suc r.0, r.1)

@@ -1,5 +1,5 @@
 -- Steps and choices by a goal's candidates.
-use Rattle.std.proofs.Common.{◌≡◌, ℕ, suc, ◌+◌, ◌<◌, ◌^◌, Bool, true, false, cond, List, [], ◌∷◌, map, length, drop, slice_get, Some, None, is_some, refl, ap, sym, subst, ◌∙◌, arith}
+use Rattle.std.proofs.Common.{◌≡◌, ℕ, suc, ◌+◌, ◌-◌, ◌<◌, ◌^◌, Bool, true, false, cond, List, [], ◌∷◌, map, length, take, drop, slice_get, Option, Some, None, is_some, refl, ap, sym, subst, ◌∙◌, arith}
 use Rattle.std.specs.List.{position_from}
 use Rattle.std.specs.Option.{option_map, option_map_or}
 use Rattle.std.proofs.lemmas.Option.{slice_get_within}
@@ -23,14 +23,15 @@ use Rattle.tp_machine.specs.declared.stepped.Stepped.TheVariants.{Went, Dead}
 use Rattle.tp_machine.specs.Program.{head_term}
 use Rattle.tp_machine.specs.Heads.{hits, unifier}
 use Rattle.tp_machine.specs.Machine.{IsMachine, IsStanding, Steps, world_in}
-use Rattle.tp_machine.specs.Meets.{Calls, Hits, clauses_of, found_from}
+use Rattle.tp_machine.specs.Meets.{Calls, Hits, Meets, clauses_of, found_from}
 use Rattle.tp_machine.specs.Goes.{Enters, IsKept, MayKeep}
-use Rattle.tp_machine.specs.Trying.{AreTried, IsPlaced, clause_at, hits_at, places_in}
+use Rattle.tp_machine.specs.Trying.{AreTried, IsPlaced, StillTries, clause_at, hits_at, places_in}
 use Rattle.tp_machine.proofs.Meets.HeadsMet.{here_next, view_hits}
 use Rattle.tp_machine.proofs.Step.Back.{hits_kept, untried-same}
 use Rattle.tp_machine.proofs.Step.Clauses.{kept_from, kept_none, may_clause, next_untried, runs_none, runs_some}
 use Rattle.tp_machine.proofs.Step.Parts.{to_branch}
-use Rattle.tp_machine.proofs.Trying.Lists.{here-drop, drop-here, drop-found}
+use Rattle.tp_machine.proofs.Trying.Lists.{here-drop, drop-here, drop-found, position-shift, filter-rest}
+use Rattle.tp_machine.proofs.Trying.Split.{take-rest}
 use Rattle.tp_machine.proofs.Trying.Found.{NextCandidate, among, clauses-stand, next-candidate, none-left}
 
 -- ---- a clause at its place
@@ -133,30 +134,84 @@ module _ (m : Machine) (t : Task) (c : Call) (calls : Calls m t c None) (is : Is
       (runs_some m t c calls some.0 some.1.0 n.place (world_in new) some.1.1 n.found
       (sym (untried-same m mid (alt.Clause (n.place + 1)) kept (alt.Clause n.place)) ∙ e.world ∙ ap (λ ws. world_in new ∷ ws) (untried-same m mid (alt.Clause (n.place + 1)) kept (alt.Clause (n.place + 1)))))
 
--- the only one
-module _ (m : Machine) (t : Task) (c : Call) (calls : Calls m t c None) (is : IsMachine m) (id : ClauseId) (h : AreTried m t c 0 (id ∷ [])) where
-  only-at : (b : Bool) → hits_at m t.goal id ≡ b → position_from (hits_at m t.goal) 0 (id ∷ []) ≡ cond b (Some 0) None
-  only-at b e = ap (λ q. cond q (Some 0) None) e
+-- some clauses that may be all, of which the first is looked at last
+module _ (m : Machine) (t : Task) (c : Call) (calls : Calls m t c None) (is : IsMachine m) (id : ClauseId) (others : List ClauseId) (h : AreTried m t c 0 (id ∷ others)) where
+  at-first : hits_at m t.goal id ≡ true → position_from (hits_at m t.goal) 0 (id ∷ others) ≡ Some 0
+  at-first e = ap (λ q. cond q (Some 0) (position_from (hits_at m t.goal) 1 others)) e
 
-  pub only-next : hits_at m t.goal id ≡ true → NextCandidate m t c calls 0 0 (id ∷ [])
-  only-next e = next-candidate m t c calls 0 0 (id ∷ []) h (only-at true e)
+  -- the first has no unifier with the goal: what is next is the next of the others
+  pub at-others : (next : Option ℕ) → next ≡ position_from (hits_at m t.goal) 0 others → hits_at m t.goal id ≡ false → position_from (hits_at m t.goal) 0 (id ∷ others) ≡ option_map suc next
+  at-others next e miss =
+      ap (λ q. cond q (Some 0) (position_from (hits_at m t.goal) 1 others)) miss
+      ∙ position-shift (hits_at m t.goal) 0 1 others refl ∙ ap (option_map suc) (sym e)
 
-  only-placed : (e : hits_at m t.goal id ≡ true) → IsPlaced m t c (only-next e).place id
-  only-placed e = let n = only-next e in let same : n.id ≡ id = cc-same n.id id n.here in subst (IsPlaced m t c n.place) same n.placed
-    where
-      cc-same : (x y : ClauseId) → Some y ≡ Some x → x ≡ y
-      cc-same x y f = cc
+  -- the others are tried from some place on
+  pub still-others : StillTries m t others
+  still-others =
+      let r = filter-rest h.tried (places_in m c) id others h.places in
+      record { call = c; calls = calls; from = r.0; rest = record { tried = h.tried; places = r.1; others = h.others } }
 
-  pub only-runs : (new : Machine) → hits_at m t.goal id ≡ true → ((place : ℕ) → IsPlaced m t c place id → Enters m place new) → Steps m new Went
-  only-runs new e enter =
-      let n = only-next e in
-      first-runs m t c calls is (id ∷ []) h 0 n m new (kept_none m t c calls (n.place + 1) is (none-left m t c calls (n.place + 1) (drop (0 + 1) (id ∷ [])) n.left refl)) (enter n.place (only-placed e))
-
-  pub only-misses : hits_at m t.goal id ≡ false → Steps m m (Dead Failed)
-  only-misses e =
-      let a = among m t c 0 (id ∷ []) h 0 id refl in
+  some-places : 0 < length (places_in m c)
+  some-places =
+      let a = among m t c 0 (id ∷ others) h 0 id refl in
       let lt = slice_get_within (places_in m c) a.0 id a.1 in
-      none-runs m t c calls is (id ∷ []) h (omega arith) (only-at false e)
+      omega arith
+
+  first-next : hits_at m t.goal id ≡ true → NextCandidate m t c calls 0 0 (id ∷ others)
+  first-next e = next-candidate m t c calls 0 0 (id ∷ others) h (at-first e)
+
+  -- the first has a unifier with the goal, which goes on with it, once a choice is kept for the others
+  pub it-runs : (mid new : Machine) → hits_at m t.goal id ≡ true → ((from : ℕ) → AreTried m t c from others → IsKept m (alt.Clause from) mid)
+      → ((place : ℕ) → IsPlaced mid t c place id → Enters mid place new) → Steps m new Went
+  it-runs mid new e kept enter =
+      let n = first-next e in
+      let k = kept (n.place + 1) n.left in
+      let there : slice_get (places_in m c) n.place ≡ Some id = n.placed.there ∙ sym n.here in
+      first-runs m t c calls is (id ∷ others) h 0 n mid new k
+      (enter n.place (kept-placed m mid (alt.Clause (n.place + 1)) k t c n.place id (next_untried m t c calls 0 n.place n.found).hit there))
+
+  -- neither it nor another has one
+  pub none-goes : hits_at m t.goal id ≡ false → position_from (hits_at m t.goal) 0 others ≡ None → Steps m m (Dead Failed)
+  none-goes miss none = none-runs m t c calls is (id ∷ others) h some-places (at-others None (sym none) miss)
+
+  -- the first has none, and the next that has one is another
+  module _ (next : ℕ) (found : position_from (hits_at m t.goal) 0 others ≡ Some next) (miss : hits_at m t.goal id ≡ false) where
+    other-next : NextCandidate m t c calls 0 (suc next) (id ∷ others)
+    other-next = next-candidate m t c calls 0 (suc next) (id ∷ others) h (at-others (Some next) (sym found) miss)
+
+    -- those behind it
+    abbrev pub behind : List ClauseId
+    behind = take (length others - (next + 1)) (drop (next + 1) others)
+
+    other-left : AreTried m t c (other-next.place + 1) behind
+    other-left =
+        let more : suc next + 1 ≡ suc (next + 1) = omega arith in
+        subst (AreTried m t c (other-next.place + 1)) (ap (λ k. drop k (id ∷ others)) more ∙ sym (take-rest (next + 1) others)) other-next.left
+
+    pub other-tries : StillTries m t behind
+    other-tries = record { call = c; calls = calls; from = other-next.place + 1; rest = other-left }
+
+    -- the goal goes on with it, once a choice is kept for those behind it
+    module _ (mid : Machine) (keep : (from : ℕ) → AreTried m t c from behind → IsKept m (alt.Clause from) mid) (other : ClauseId) (here : slice_get others next ≡ Some other) where
+      other-kept : IsKept m (alt.Clause (other-next.place + 1)) mid
+      other-kept = keep (other-next.place + 1) other-left
+
+      other-there : slice_get (places_in m c) other-next.place ≡ Some other
+      other-there = other-next.placed.there ∙ sym other-next.here ∙ here
+
+      other-hits : Hits m t c other-next.place
+      other-hits = (next_untried m t c calls 0 other-next.place other-next.found).hit
+
+      pub other-meets : Meets mid t
+      other-meets = (hits_kept m mid (alt.Clause (other-next.place + 1)) other-kept t c other-next.place other-hits).calls.meets
+
+      pub other-hit : hits_at mid t.goal other ≡ true
+      other-hit = kept-hits m mid (alt.Clause (other-next.place + 1)) other-kept t.goal other ∙ hit-placed m t c other-next.place other-hits other other-there
+
+      pub other-runs : (new : Machine) → ((place : ℕ) → IsPlaced mid t c place other → Enters mid place new) → Steps m new Went
+      other-runs new enter =
+          first-runs m t c calls is (id ∷ others) h (suc next) other-next mid new other-kept
+          (enter other-next.place (kept-placed m mid (alt.Clause (other-next.place + 1)) other-kept t c other-next.place other other-hits other-there))
 
 -- ---- choices
 

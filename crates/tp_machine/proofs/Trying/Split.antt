@@ -86,3 +86,8 @@ split-behind p ids n point =
 pub some-of : {X : Type 0} (N : Type 0) (P Q : X → Type 0) (r : Option X) → MatchOption r N P → ((x : X) → P x → Q x) → IfSome r Q
 some-of N P Q None h f = tt
 some-of N P Q (Some x) h f = f x h
+
+-- a list of no length is empty
+pub no-element : {A : Type 0} (xs : List A) → length xs ≡ 0 → xs ≡ []
+no-element [] e = refl
+no-element (x ∷ xs) e = absurd (cc)
