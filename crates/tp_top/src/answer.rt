@@ -22,7 +22,6 @@ use crate::program::Status;
 use crate::refusal::{cause_of, goal_refused, model_refused};
 use crate::report::{Counted, report, sample_report, say_made};
 use crate::sample::Tally;
-use std::alloc::Global;
 use tp_clauses::{Base, Cause, LoadFault};
 use tp_engine::{AnswerFault, Ended, Engine, StartFault};
 use tp_outside::Sink;
@@ -98,7 +97,6 @@ fn print_all<W: Sink, M: Counting>(
 
 /// The same over a sink and meters, for what a run asks.
 fn print_for<W: Sink, M: Counting>(
-    alloc: Global,
     engine: &mut Engine<'_>,
     asked: Asked<'_>,
     sink: &mut W,
@@ -117,7 +115,7 @@ fn print_for<W: Sink, M: Counting>(
         (M.numbers meters.old) (M.numbers meters.new) }
 {
     let mut printer = Printer {
-        alloc,
+        alloc: asked.alloc,
         sink,
         meters,
         metered: asked.meters,
@@ -128,7 +126,6 @@ fn print_for<W: Sink, M: Counting>(
 /// Searches from the start that an engine stands at, and writes the counts of a sample with so many
 /// processes, whose model has so many clauses, and then the last line.
 fn count_for<W: Sink>(
-    alloc: Global,
     engine: &mut Engine<'_>,
     n: u64,
     clauses: u64,
@@ -150,7 +147,7 @@ fn count_for<W: Sink>(
                 clauses,
                 events: tally.events,
             };
-            let made = sample_report(alloc, &engine.view(), &ended, counted);
+            let made = sample_report(asked.alloc, &engine.view(), &ended, counted);
             say_made(sink, made)
         }
         Err(_) => Err(AnswerFault::NoMemory),
@@ -159,7 +156,6 @@ fn count_for<W: Sink>(
 
 /// The same for what a request asks: a run's answers, or a sample's counts.
 fn search<W: Sink, M: Counting>(
-    alloc: Global,
     engine: &mut Engine<'_>,
     clauses: u64,
     asked: Asked<'_>,
@@ -183,67 +179,74 @@ fn search<W: Sink, M: Counting>(
         (M.numbers meters.old) (M.numbers meters.new) }
 {
     match asked.source {
-        Source::Held(_) => print_for(alloc, engine, asked, sink, meters),
-        Source::Sample(n) => count_for(alloc, engine, n, clauses, asked, sink),
+        Source::Held(_) => print_for(engine, asked, sink, meters),
+        Source::Sample(n) => count_for(engine, n, clauses, asked, sink),
     }
+}
+
+/// A model that was loaded.
+struct Loaded<'a> {
+    /// Its clauses and operators.
+    base: &'a Base,
+    /// The names in it.
+    atoms: Atoms,
 }
 
 /// Answers a goal that was read, over a base.
 fn answer_read<W: Sink, M: Counting>(
-    alloc: Global,
-    base: &Base,
-    atoms: Atoms,
+    loaded: Loaded<'_>,
     goal: &ReadTerm,
     asked: Asked<'_>,
     sink: &mut W,
     meters: &mut M,
 ) -> Result<Status, AnswerFault>
-    requires base { AreNamed (length atoms) base.now.cells }
-    requires goal { GoalFits atoms goal.now }
+    requires base { AreNamed (length loaded.atoms) loaded.base.now.cells }
+    requires goal { GoalFits loaded.atoms goal.now }
     requires answers { 0 < asked.answers }
     ensures never_falls { W.faults sink.old ≤ W.faults sink.new }
     ensures wrote { Writes
-        (for_read (M.kinds meters.old) (model_in atoms base.now) (found_in atoms goal.now)
-        (request_in asked.entry))
+        (for_read (M.kinds meters.old) (model_in loaded.entry.atoms loaded.entry.base.now)
+        (found_in loaded.entry.atoms goal.now) (request_in asked.entry))
         (W.faults sink.old) (W.faults sink.new) (W.taken sink.old) (W.taken sink.new) result }
     ensures kinds { M.kinds meters.new ≡ M.kinds meters.old }
     ensures counted { MayCount result asked.entry.meters (M.kinds meters.old)
-        (for_read (M.kinds meters.old) (model_in atoms base.now) (found_in atoms goal.now)
-        (request_in asked.entry)).2
+        (for_read (M.kinds meters.old) (model_in loaded.entry.atoms loaded.entry.base.now)
+        (found_in loaded.entry.atoms goal.now) (request_in asked.entry)).2
         (M.numbers meters.old) (M.numbers meters.new) }
 {
-    match Engine::new(alloc, base, atoms, goal) {
-        Ok(mut engine) => search(alloc, &mut engine, base.count(), asked, sink, meters),
-        Err(StartFault::Body) => say_made(sink, goal_refused(alloc, goal.from, Cause::Body)),
+    let Loaded { base, atoms } = loaded;
+    match Engine::new(asked.alloc, base, atoms, goal) {
+        Ok(mut engine) => search(&mut engine, base.count(), asked, sink, meters),
+        Err(StartFault::Body) => say_made(sink, goal_refused(asked.alloc, goal.from, Cause::Body)),
         Err(StartFault::NoMemory) => Err(AnswerFault::NoMemory),
     }
 }
 
 /// Answers the text of a goal, over a base.
 fn answer_goal<W: Sink, M: Counting>(
-    alloc: Global,
-    base: &Base,
-    mut atoms: Atoms,
+    loaded: Loaded<'_>,
     asked: Asked<'_>,
     sink: &mut W,
     meters: &mut M,
 ) -> Result<Status, AnswerFault>
-    requires base { AreNamed (length atoms) base.now.cells }
+    requires base { AreNamed (length loaded.atoms) loaded.base.now.cells }
     requires answers { 0 < asked.answers }
     ensures never_falls { W.faults sink.old ≤ W.faults sink.new }
     ensures wrote { Writes
-        (for_goal (M.kinds meters.old) (model_in atoms base.now) (request_in asked.entry))
+        (for_goal (M.kinds meters.old) (model_in loaded.entry.atoms loaded.entry.base.now)
+        (request_in asked.entry))
         (W.faults sink.old) (W.faults sink.new) (W.taken sink.old) (W.taken sink.new) result }
     ensures kinds { M.kinds meters.new ≡ M.kinds meters.old }
     ensures counted { MayCount result asked.entry.meters (M.kinds meters.old)
-        (for_goal (M.kinds meters.old) (model_in atoms base.now)
+        (for_goal (M.kinds meters.old) (model_in loaded.entry.atoms loaded.entry.base.now)
         (request_in asked.entry)).2
         (M.numbers meters.old) (M.numbers meters.new) }
 {
-    match read_goal(alloc, asked.goal, base.ops(), &mut atoms) {
-        Ok(term) => answer_read(alloc, base, atoms, &term, asked, sink, meters),
+    let Loaded { base, mut atoms } = loaded;
+    match read_goal(asked.alloc, asked.goal, base.ops(), &mut atoms) {
+        Ok(term) => answer_read(Loaded { base, atoms }, &term, asked, sink, meters),
         Err(ReadFault::Refused { byte, cause }) => {
-            say_made(sink, goal_refused(alloc, byte, cause_of(cause)))
+            say_made(sink, goal_refused(asked.alloc, byte, cause_of(cause)))
         }
         Err(ReadFault::NoMemory) => Err(AnswerFault::NoMemory),
     }
@@ -257,7 +260,6 @@ fn answer_goal<W: Sink, M: Counting>(
 /// `Write` where a write failed, behind a prefix of the text. `NoMemory` where memory was refused
 /// before all of it was written.
 pub fn answer<W: Sink, M: Counting>(
-    alloc: Global,
     text: &[u8],
     asked: Asked<'_>,
     sink: &mut W,
@@ -273,18 +275,18 @@ pub fn answer<W: Sink, M: Counting>(
         (for_model (M.kinds meters.old) (model text.now) (request_in asked.entry)).2
         (M.numbers meters.old) (M.numbers meters.new) }
 {
-    let Ok(mut atoms) = Atoms::start(alloc) else {
+    let Ok(mut atoms) = Atoms::start(asked.alloc) else {
         return Err(AnswerFault::NoMemory);
     };
-    match Base::load(alloc, text, &mut atoms) {
-        Ok(base) => answer_goal(alloc, &base, atoms, asked, sink, meters),
+    match Base::load(asked.alloc, text, &mut atoms) {
+        Ok(base) => answer_goal(Loaded { base: &base, atoms }, asked, sink, meters),
         Err(
             LoadFault::Refused {
                 clause,
                 byte,
                 cause,
             },
-        ) => say_made(sink, model_refused(alloc, clause, byte, cause)),
+        ) => say_made(sink, model_refused(asked.alloc, clause, byte, cause)),
         Err(LoadFault::NoMemory) => Err(AnswerFault::NoMemory),
     }
 }

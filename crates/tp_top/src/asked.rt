@@ -4,6 +4,7 @@ ghost use Rattle.std.specs.Prelude.{◌≡◌};
 ghost use Rattle.tp_top.specs.Expected.{asked as asked_for};
 ghost use Rattle.tp_top.specs.Told.{request_in};
 
+use std::alloc::Global;
 use tp_words::Request;
 
 /// Where the text of a model comes from.
@@ -15,9 +16,11 @@ pub enum Source<'a> {
     Sample(u64),
 }
 
-/// What a request asks for, its texts lent.
+/// What a request asks for, its texts lent, and where memory comes from.
 #[derive(Clone, Copy)]
 pub struct Asked<'a> {
+    /// Where the memory for all that is made comes from.
+    pub alloc: Global,
     /// Where the model comes from.
     pub source: Source<'a>,
     /// The text of the goal.
@@ -31,8 +34,8 @@ pub struct Asked<'a> {
 }
 
 impl<'a> Asked<'a> {
-    /// What this request asks for.
-    pub fn of(request: &'a Request) -> Asked<'a>
+    /// What this request asks for, with memory from there.
+    pub fn of(alloc: Global, request: &'a Request) -> Asked<'a>
         ensures { request_in result ≡ asked_for request.now }
     {
         match request {
@@ -43,6 +46,7 @@ impl<'a> Asked<'a> {
                 answers,
                 meters,
             } => Asked {
+                alloc,
                 source: Source::Held(model.as_str()),
                 goal: goal.as_str(),
                 steps: *steps,
@@ -50,6 +54,7 @@ impl<'a> Asked<'a> {
                 meters: *meters,
             },
             Request::Sample { n, steps } => Asked {
+                alloc,
                 source: Source::Sample(*n),
                 goal: "top",
                 steps: *steps,

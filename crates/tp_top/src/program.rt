@@ -72,7 +72,6 @@ fn status_of(written: Result<Status, AnswerFault>) -> Status
 
 /// Reads the model of a request that is held under a name, and answers its goal.
 fn perform_held<S: Shelf, W: Sink, M: Counting>(
-    alloc: Global,
     name: &str,
     asked: Asked<'_>,
     shelf: &mut S,
@@ -101,8 +100,8 @@ fn perform_held<S: Shelf, W: Sink, M: Counting>(
           numbers_after = M.numbers meters.new;
         }) result }
 {
-    match read_all(alloc, shelf, name) {
-        Ok(text) => status_of(answer(alloc, &text, asked, sink, meters)),
+    match read_all(asked.alloc, shelf, name) {
+        Ok(text) => status_of(answer(&text, asked, sink, meters)),
         Err(ReadError::Fault) => status_of(say(sink, &unread())),
         Err(ReadError::TooLong) => status_of(say(sink, &too_long())),
         Err(ReadError::NoMemory) => Status::Memory,
@@ -112,7 +111,6 @@ fn perform_held<S: Shelf, W: Sink, M: Counting>(
 /// Makes the model of a sample with so many processes, and counts what is found of its goal.
 /// Whatever a shelf tells, it isn't read.
 fn perform_sample<W: Sink, M: Counting>(
-    alloc: Global,
     n: u64,
     asked: Asked<'_>,
     sink: &mut W,
@@ -138,15 +136,14 @@ fn perform_sample<W: Sink, M: Counting>(
           numbers_after = M.numbers meters.new;
         }) result }
 {
-    match sample_text(alloc, n) {
-        Ok(text) => status_of(answer(alloc, text.as_bytes(), asked, sink, meters)),
+    match sample_text(asked.alloc, n) {
+        Ok(text) => status_of(answer(text.as_bytes(), asked, sink, meters)),
         Err(NoMemory) => Status::Memory,
     }
 }
 
 /// Reads or makes the model of a request, and answers its goal.
 fn perform<S: Shelf, W: Sink, M: Counting>(
-    alloc: Global,
     asked: Asked<'_>,
     shelf: &mut S,
     sink: &mut W,
@@ -175,8 +172,8 @@ fn perform<S: Shelf, W: Sink, M: Counting>(
         }) result }
 {
     match asked.source {
-        Source::Held(name) => perform_held(alloc, name, asked, shelf, sink, meters),
-        Source::Sample(n) => perform_sample(alloc, n, asked, sink, meters),
+        Source::Held(name) => perform_held(name, asked, shelf, sink, meters),
+        Source::Sample(n) => perform_sample(n, asked, sink, meters),
     }
 }
 
@@ -224,7 +221,7 @@ pub fn run<S: Shelf, W: Sink>(
     }) result }
 {
     match read_words(alloc, words) {
-        Ok(request) => perform(alloc, Asked::of(&request), shelf, sink, meters),
+        Ok(request) => perform(Asked::of(alloc, &request), shelf, sink, meters),
         Err(WordsFault::Usage) => status_of(say(sink, &usage())),
         Err(WordsFault::NoMemory) => Status::Memory,
     }
