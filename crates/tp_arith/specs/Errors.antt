@@ -5,7 +5,8 @@ use Rattle.tp_terms.specs.Shown.{name_at}
 use Rattle.tp_meaning.specs.Checks.{Checked, evaluation_error, unbound}
 use Rattle.tp_meaning.specs.Arith.{not_evaluable}
 use Rattle.tp_arith.specs.declared.stop.EvaluationError.{EvaluationError}
-use Rattle.tp_arith.specs.declared.stop.EvaluationError.TheVariants.{Overflow, ZeroDivisor, Undefined}
+use Rattle.tp_arith.specs.declared.stop.EvaluationError.TheVariants.{Overflow, ZeroDivisor}
+use Rattle.tp_arith.specs.declared.stop.EvaluationError.TheVariants.{Undefined}
 use Rattle.tp_arith.specs.declared.stop.Fault.{Fault}
 use Rattle.tp_arith.specs.declared.stop.Fault.TheVariants.{Unbound, NotEvaluable, Evaluation}
 

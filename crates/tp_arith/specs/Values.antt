@@ -8,7 +8,8 @@ use Rattle.tp_meaning.specs.Heap.{Heap, seen}
 use Rattle.tp_arith.specs.declared.raising.Raise.{Raise}
 use Rattle.tp_arith.specs.declared.raising.Raise.TheVariants.{Raised, NoMemory}
 use Rattle.tp_arith.specs.declared.Relation.{Relation}
-use Rattle.tp_arith.specs.declared.Relation.TheVariants.{Equal, Unequal, Less, LessEqual, Greater, GreaterEqual}
+use Rattle.tp_arith.specs.declared.Relation.TheVariants.{Equal, Unequal, Less, LessEqual, Greater}
+use Rattle.tp_arith.specs.declared.Relation.TheVariants.{GreaterEqual}
 
 -- the place shows this kind of error
 pub record Raises (h : Heap) (kind : Term) (at : Ref) : Type 0 where

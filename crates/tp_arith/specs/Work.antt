@@ -1,5 +1,6 @@
 -- The value of a term by steps: what is next, and which operations wait for values.
-use Rattle.std.specs.Prelude.{◌≡◌, ℕ, zero, suc, ◌+◌, ◌*◌, ◌<◌, ℤ, List, [], ◌∷◌, length, Option, None, option_map, Result, Ok, Err}
+use Rattle.std.specs.Prelude.{◌≡◌, ℕ, zero, suc, ◌+◌, ◌*◌, ◌<◌, ℤ, List, [], ◌∷◌, length, Option}
+use Rattle.std.specs.Prelude.{None, option_map, Result, Ok, Err}
 use Rattle.tp_terms.specs.Term.{Name, term_size}
 use Rattle.tp_meaning.specs.Checks.{Checked, ◌>>=◌}
 use Rattle.tp_meaning.specs.Arith.{operations_of, unary_value, binary_value, evaluated}

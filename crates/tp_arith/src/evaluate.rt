@@ -6,7 +6,9 @@ ghost use Rattle.tp_terms.specs.Names.{IsTable};
 ghost use Rattle.tp_terms.specs.Shown.{name_at};
 ghost use Rattle.tp_meaning.specs.Arith.{evaluated};
 ghost use Rattle.tp_meaning.specs.Heap.{Heap, IsHeap, seen};
-ghost use Rattle.tp_arith.specs.Work.{AreWaiting, StepTo, WaitingStands, Gives, finished, operation_in, outcome, next_weight, waiting_weight, all_weight};
+ghost use Rattle.tp_arith.specs.Work.{AreWaiting, StepTo, WaitingStands, Gives, finished};
+ghost use Rattle.tp_arith.specs.Work.{operation_in, outcome, next_weight, waiting_weight};
+ghost use Rattle.tp_arith.specs.Work.{all_weight};
 
 use crate::operations::{binary, unary};
 use crate::stop::{Fault, Stop};

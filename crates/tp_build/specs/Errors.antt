@@ -5,7 +5,8 @@ use Rattle.tp_terms.specs.declared.cells.AtomId.{AtomId}
 use Rattle.tp_terms.specs.declared.cells.Cell.{Cell}
 use Rattle.tp_terms.specs.Term.{Term}
 use Rattle.tp_terms.specs.StartNames.{start_names}
-use Rattle.tp_meaning.specs.Checks.{Checked, unbound, type_error, domain_error, representation_error}
+use Rattle.tp_meaning.specs.Checks.{Checked, unbound, type_error, domain_error}
+use Rattle.tp_meaning.specs.Checks.{representation_error}
 use Rattle.tp_meaning.specs.Heap.{Heap, CanStand, cell_seen}
 use Rattle.tp_build.specs.declared.errors.WantedType.{WantedType}
 use Rattle.tp_build.specs.declared.errors.WantedType.TheVariants as type

@@ -5,7 +5,8 @@ use Rattle.tp_terms.specs.Term.{Term}
 use Rattle.tp_meaning.specs.Subst.{Subst}
 use Rattle.tp_meaning.specs.Checks.{Checked}
 use Rattle.tp_meaning.specs.Heap.{Heap}
-use Rattle.tp_meaning.specs.Answers.{Answer, succeeds, unifies, functor, arg, univ, atom_length, atom_codes}
+use Rattle.tp_meaning.specs.Answers.{Answer, succeeds, unifies, functor, arg, univ, atom_length}
+use Rattle.tp_meaning.specs.Answers.{atom_codes}
 use Rattle.tp_meaning.specs.Builtin.{differs, copies, is_value, of_one, of_two, of_three}
 use Rattle.tp_meaning.specs.declared.goals.BuiltId.{BuiltId}
 use Rattle.tp_meaning.specs.declared.goals.BuiltId.TheVariants as built

@@ -1,8 +1,10 @@
 -- Lists, as goals walk and build them.
-use Rattle.std.specs.Prelude.{◌≡◌, ℕ, ◌+◌, ◌<◌, ◌^◌, List, [], ◌∷◌, map, length, All, Ok, Err, codes, if◌then◌else◌}
+use Rattle.std.specs.Prelude.{◌≡◌, ℕ, ◌+◌, ◌<◌, ◌^◌, List, [], ◌∷◌, map, length, All, Ok, Err}
+use Rattle.std.specs.Prelude.{codes, if◌then◌else◌}
 use Rattle.tp_terms.specs.declared.cells.Ref.{Ref}
 use Rattle.tp_terms.specs.declared.cells.Cell.{Cell}
-use Rattle.tp_terms.specs.Term.{Term, Terms, Var, Atom, Comp, NoMore, More, names_eq, terms_in, list_term}
+use Rattle.tp_terms.specs.Term.{Term, Terms, Var, Atom, Comp, NoMore, More, names_eq, terms_in}
+use Rattle.tp_terms.specs.Term.{list_term}
 use Rattle.tp_terms.specs.Term as terms
 use Rattle.tp_meaning.specs.Checks.{Checked, unbound, type_error}
 use Rattle.tp_meaning.specs.Heap.{Heap, CanStand, AddsCells, seen, cell_seen}

@@ -3,7 +3,8 @@
 ghost use Rattle.std.specs.Prelude.{Err, OnErr, IfOk};
 ghost use Rattle.tp_meaning.specs.Heap.{IsHeap, Makes, AddsCells, cell_shown, cell_seen};
 ghost use Rattle.tp_build.specs.Answers.{Does};
-ghost use Rattle.tp_build.specs.Errors.{FaultStands, IsWord, fault_kind, fault_term, type_word, domain_word, limit_word};
+ghost use Rattle.tp_build.specs.Errors.{FaultStands, IsWord, fault_kind, fault_term, type_word};
+ghost use Rattle.tp_build.specs.Errors.{domain_word, limit_word};
 
 use crate::outcome::Outcome;
 use tp_meaning::{Terms, compound_of_one, compound_of_two};

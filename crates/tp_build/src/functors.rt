@@ -3,8 +3,10 @@
 ghost use Rattle.std.specs.Prelude.{◌≡◌, ◌<◌, ℕ, length, IfOk, OnOk, OnErr, pos, Ok};
 ghost use Rattle.tp_terms.specs.Term.{Int};
 ghost use Rattle.tp_terms.specs.Shown.{name_at};
-ghost use Rattle.tp_meaning.specs.Heap.{AddsCells, CanStand, Heap, IsHeap, IsTop, cell_seen, cell_shown, seen, shown};
-ghost use Rattle.tp_meaning.specs.Answers.{functor, functor_made, functor_of_variable, then_unifies, unifies};
+ghost use Rattle.tp_meaning.specs.Heap.{AddsCells, CanStand, Heap, IsHeap, IsTop, cell_seen};
+ghost use Rattle.tp_meaning.specs.Heap.{cell_shown, seen, shown};
+ghost use Rattle.tp_meaning.specs.Answers.{functor, functor_made, functor_of_variable};
+ghost use Rattle.tp_meaning.specs.Answers.{then_unifies, unifies};
 ghost use Rattle.tp_meaning.specs.Unifier.{IsConstant, pair};
 ghost use Rattle.tp_build.specs.Answers.{Does, HeapGrows};
 ghost use Rattle.tp_build.specs.Errors.{Finds, itself};

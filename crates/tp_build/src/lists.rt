@@ -2,7 +2,8 @@
 
 ghost use Rattle.std.specs.Prelude.{◌≡◌, ◌≤◌, ◌<◌, ◌+◌, ◌^◌, ◌↔◌, ℕ, length, IsTrue, IfOk, OnErr};
 ghost use Rattle.tp_terms.specs.Term.{cell, list_term, terms_in};
-ghost use Rattle.tp_meaning.specs.Heap.{AddsCells, CanStand, HasPlaces, Heap, IsHeap, IsTop, IsUnbound, cell_seen, seen};
+ghost use Rattle.tp_meaning.specs.Heap.{AddsCells, CanStand, HasPlaces, Heap, IsHeap, IsTop};
+ghost use Rattle.tp_meaning.specs.Heap.{IsUnbound, cell_seen, seen};
 ghost use Rattle.tp_meaning.specs.Answers.{parts_list};
 ghost use Rattle.tp_build.specs.Answers.{args_seen};
 ghost use Rattle.tp_build.specs.Errors.{Finds, itself};

@@ -1,10 +1,12 @@
 //! The calendar: which process goes on at which simulated time.
 #![tactic(auto)]
 
-ghost use Rattle.std.specs.Prelude.{◌≡◌, ◌+◌, ◌<◌, ◌≤◌, true, false, [], ◌∷◌, ◌++◌, length, slice_get, IfOk, IfSome, IfNone, OnOk, OnErr};
+ghost use Rattle.std.specs.Prelude.{◌≡◌, ◌+◌, ◌<◌, ◌≤◌, true, false, [], ◌∷◌, ◌++◌, length};
+ghost use Rattle.std.specs.Prelude.{slice_get, IfOk, IfSome, IfNone, OnOk, OnErr};
 ghost use Rattle.std.specs.VecDeque.{deque_len, deque_capacity};
 ghost use Rattle.std.specs.List.Sorted.{IsPartitionPoint};
-ghost use Rattle.tp_calendar.specs.Order.{goes_before, is_beside, put_slot, without_slot, IsFree, IsOrdered};
+ghost use Rattle.tp_calendar.specs.Order.{goes_before, is_beside, put_slot, without_slot, IsFree};
+ghost use Rattle.tp_calendar.specs.Order.{IsOrdered};
 
 use std::alloc::Global;
 use std::collections::VecDeque;

@@ -1,5 +1,7 @@
 -- What a base keeps, and the clauses that it stands for.
-use Rattle.std.specs.Prelude.{◌≡◌, ℕ, suc, Bool, false, nat_eq, ◌&&◌, List, [], ◌∷◌, map, length, Option, Some, option_map, slice_get, if◌then◌else◌, ◌<◌, All, IfSome, true}
+use Rattle.std.specs.Prelude.{◌≡◌, ℕ, suc, Bool, false, nat_eq, ◌&&◌, List, [], ◌∷◌, map, length}
+use Rattle.std.specs.Prelude.{Option, Some, option_map, slice_get, if◌then◌else◌, ◌<◌, All, IfSome}
+use Rattle.std.specs.Prelude.{true}
 use Rattle.tp_terms.specs.declared.cells.Cell.{Cell}
 use Rattle.tp_terms.specs.declared.cells.Cell.TheVariants as cell
 use Rattle.tp_terms.specs.declared.cells.Ref.{Ref}

@@ -1,5 +1,6 @@
 -- Directives: `:- op(Priority, Type, Name)`, and no other.
-use Rattle.std.specs.Prelude.{Bool, false, nat_le, ◌&&◌, List, [], ◌∷◌, Option, Some, None, Ok, Err, ℤ, pos, negsuc, codes, is_some, if◌then◌else◌}
+use Rattle.std.specs.Prelude.{Bool, false, nat_le, ◌&&◌, List, [], ◌∷◌, Option, Some, None, Ok, Err}
+use Rattle.std.specs.Prelude.{ℤ, pos, negsuc, codes, is_some, if◌then◌else◌}
 use Rattle.tp_terms.specs.Term.{Name, Term, Int, Atom, Comp, NoMore, More, names_eq}
 use Rattle.tp_parse.specs.Table.{Table, type_of, add_op}
 

@@ -1,10 +1,13 @@
 -- What taking a read term answers, against the definition.
-use Rattle.std.specs.Prelude.{◌≡◌, ℕ, ◌+◌, Bool, nat_eq, nat_le, ◌&&◌, ◌||◌, List, [], ◌∷◌, ◌++◌, length, true, slice_get, Option, Some, None, Result, Ok, Err, ℤ, pos, negsuc, if◌then◌else◌, false}
+use Rattle.std.specs.Prelude.{◌≡◌, ℕ, ◌+◌, Bool, nat_eq, nat_le, ◌&&◌, ◌||◌, List, [], ◌∷◌, ◌++◌}
+use Rattle.std.specs.Prelude.{length, true, slice_get, Option, Some, None, Result, Ok, Err, ℤ, pos}
+use Rattle.std.specs.Prelude.{negsuc, if◌then◌else◌, false}
 use Rattle.tp_terms.specs.declared.cells.Cell.{Cell}
 use Rattle.tp_terms.specs.declared.cells.Cell.TheVariants as cell
 use Rattle.tp_terms.specs.declared.cells.Ref.{Ref}
 use Rattle.tp_terms.specs.declared.cells.AtomId.{AtomId}
-use Rattle.tp_terms.specs.declared.symbols.TheConstants.{OP, XFX, XFY, YFX, FY, FX, LIST_CELL, EMPTY_LIST}
+use Rattle.tp_terms.specs.declared.symbols.TheConstants.{OP, XFX, XFY, YFX, FY, FX, LIST_CELL}
+use Rattle.tp_terms.specs.declared.symbols.TheConstants.{EMPTY_LIST}
 use Rattle.std.specs.Result.{is_ok}
 use Rattle.std.specs.Str.{IsCharBoundary}
 use Rattle.tp_terms.specs.Term.{Name}
@@ -23,7 +26,8 @@ use Rattle.tp_clauses.specs.declared.kind.Key.{Key}
 use Rattle.tp_clauses.specs.declared.kind.ReadKind.{ReadKind}
 use Rattle.tp_clauses.specs.declared.kind.ReadKind.TheVariants as kind
 use Rattle.tp_clauses.specs.Directives.{add_each}
-use Rattle.tp_clauses.specs.Model.{Kind, Directive, OfClause, Model, Refusal, Rest, by_read, by_token, refusal, refused_read}
+use Rattle.tp_clauses.specs.Model.{Kind, Directive, OfClause, Model, Refusal, Rest, by_read}
+use Rattle.tp_clauses.specs.Model.{by_token, refusal, refused_read}
 use Rattle.tp_clauses.specs.Contents.{base_of}
 use Rattle.tp_clauses.specs.Parts.{IsEmpty, IsParts, contents_of}
 use Rattle.tp_clauses.specs.declared.parts.Parts.{Parts}

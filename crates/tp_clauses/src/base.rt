@@ -1,6 +1,7 @@
 //! The base of clauses.
 
-ghost use Rattle.std.specs.Prelude.{◌≡◌, ◌<◌, ◌^◌, List, [], length, map, slice_get, true, false, Some, Err, IfOk, IfSome, MatchOption};
+ghost use Rattle.std.specs.Prelude.{◌≡◌, ◌<◌, ◌^◌, List, [], length, map, slice_get, true, false};
+ghost use Rattle.std.specs.Prelude.{Some, Err, IfOk, IfSome, MatchOption};
 ghost use Rattle.std.specs.List.{AllByRecursion};
 ghost use Rattle.std.specs.Str.{is_utf8};
 ghost use Rattle.tp_terms.specs.Term.{Name};

@@ -1,7 +1,10 @@
 //! The clauses of a predicate by first argument.
 
-ghost use Rattle.std.specs.Prelude.{◌≡◌, ◌≤◌, ◌++◌, length, option_map, slice_get, None, Some, IfOk, OnOk, if◌then◌else◌};
-ghost use Rattle.tp_clauses.specs.Candidates.{AreWithin, IsGrouped, HasLists, comes_first, in_span, list_for, listed_in, merged, same_first_key, with_list};
+ghost use Rattle.std.specs.Prelude.{◌≡◌, ◌≤◌, ◌++◌, length, option_map, slice_get, None, Some};
+ghost use Rattle.std.specs.Prelude.{IfOk, OnOk, if◌then◌else◌};
+ghost use Rattle.tp_clauses.specs.Candidates.{AreWithin, IsGrouped, HasLists, comes_first, in_span};
+ghost use Rattle.tp_clauses.specs.Candidates.{list_for, listed_in, merged, same_first_key};
+ghost use Rattle.tp_clauses.specs.Candidates.{with_list};
 ghost use Rattle.tp_clauses.specs.Parts.{IsParts, contents_of};
 
 use crate::base::ClauseId;

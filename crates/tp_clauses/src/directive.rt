@@ -6,7 +6,9 @@ ghost use Rattle.tp_parse.specs.Ops.{table_of};
 ghost use Rattle.tp_parse.specs.Table.{Table, add_op};
 ghost use Rattle.tp_clauses.specs.Directives.{add_names, directive, listed_names, op_names};
 ghost use Rattle.tp_clauses.specs.Contents.{HasNames};
-ghost use Rattle.tp_clauses.specs.Told.{MayAdd, TellsDirective, added_or_none, allows_atom, each_added, element_part, is_type_atom, list_part, lone_name, operators_at, typed};
+ghost use Rattle.tp_clauses.specs.Told.{MayAdd, TellsDirective, added_or_none, allows_atom};
+ghost use Rattle.tp_clauses.specs.Told.{each_added, element_part, is_type_atom, list_part};
+ghost use Rattle.tp_clauses.specs.Told.{lone_name, operators_at, typed};
 
 use crate::fault::Cause;
 use tp_parse::{OpFault, Ops};

@@ -3,7 +3,8 @@
 ghost use Rattle.std.specs.Prelude.{◌≡◌, ◌<◌, List, length, slice_get, Some, IfOk};
 ghost use Rattle.tp_terms.specs.Term.{Name};
 ghost use Rattle.tp_terms.specs.Names.{IsTable};
-ghost use Rattle.tp_clauses.specs.Kinds.{binary_read, free_key, head_key, key_of, read_as, unary_read};
+ghost use Rattle.tp_clauses.specs.Kinds.{binary_read, free_key, head_key, key_of, read_as};
+ghost use Rattle.tp_clauses.specs.Kinds.{unary_read};
 ghost use Rattle.tp_clauses.specs.Contents.{HasNames};
 
 use crate::fault::Cause;

@@ -1,6 +1,7 @@
 //! The clauses of a text, one read term after another.
 
-ghost use Rattle.std.specs.Prelude.{◌≡◌, ◌<◌, ◌≤◌, ◌+◌, List, length, slice_get, true, Ok, Err, Some, IfOk, OnOk};
+ghost use Rattle.std.specs.Prelude.{◌≡◌, ◌<◌, ◌≤◌, ◌+◌, List, length, slice_get, true, Ok, Err};
+ghost use Rattle.std.specs.Prelude.{Some, IfOk, OnOk};
 ghost use Rattle.std.specs.Result.{is_ok};
 ghost use Rattle.std.specs.Str.{IsCharBoundary};
 ghost use Rattle.tp_terms.specs.Term.{Name};
@@ -14,9 +15,12 @@ ghost use Rattle.tp_parse.specs.Texts.{Found};
 ghost use Rattle.tp_clauses.specs.Contents.{AreBelow, AreNameable, HasNames};
 ghost use Rattle.tp_clauses.specs.Kinds.{head_key, key_of, read_as};
 ghost use Rattle.tp_clauses.specs.Loaded.{AsksMemory};
-ghost use Rattle.tp_clauses.specs.Model.{OfClause, by_token, cause_of, kind_of, model_from, most_terms, rule as rule_of, with_head};
+ghost use Rattle.tp_clauses.specs.Model.{OfClause, by_token, cause_of, kind_of, model_from};
+ghost use Rattle.tp_clauses.specs.Model.{most_terms, rule as rule_of, with_head};
 ghost use Rattle.tp_clauses.specs.Parts.{IsParts};
-ghost use Rattle.tp_clauses.specs.Told.{IsNoInteger, MayDefine, MayTake, TellsBegin, TellsEnd, TellsToken, TellsParts, TellsRead, TellsStep, TellsTerm, outcome};
+ghost use Rattle.tp_clauses.specs.Told.{IsNoInteger, MayDefine, MayTake, TellsBegin, TellsEnd};
+ghost use Rattle.tp_clauses.specs.Told.{TellsToken, TellsParts, TellsRead, TellsStep, TellsTerm};
+ghost use Rattle.tp_clauses.specs.Told.{outcome};
 
 use crate::append::place_on;
 use crate::base::ClauseView;

@@ -1,5 +1,6 @@
 -- Lists of items that share their ends.
-use Rattle.std.specs.Prelude.{◌≡◌, ℕ, ◌<◌, List, [], ◌∷◌, ◌++◌, Option, Some, None, slice_get, slice_index_or, IfSome}
+use Rattle.std.specs.Prelude.{◌≡◌, ℕ, ◌<◌, List, [], ◌∷◌, ◌++◌, Option, Some, None, slice_get}
+use Rattle.std.specs.Prelude.{slice_index_or, IfSome}
 use Rattle.tp_terms.specs.declared.world.ItemId.{ItemId}
 use Rattle.tp_control.specs.declared.frames.Item.{Item}
 use Rattle.tp_control.specs.declared.frames.Frame.{Frame}

@@ -1,6 +1,7 @@
 //! The choices of a search that stand open.
 
-ghost use Rattle.std.specs.Prelude.{◌≡◌, ◌+◌, ◌-◌, ◌<◌, List, [], ◌∷◌, ◌++◌, length, take, filter, nat_eq, IfSome, IfNone, OnOk, OnErr};
+ghost use Rattle.std.specs.Prelude.{◌≡◌, ◌+◌, ◌-◌, ◌<◌, List, [], ◌∷◌, ◌++◌, length, take, filter};
+ghost use Rattle.std.specs.Prelude.{nat_eq, IfSome, IfNone, OnOk, OnErr};
 ghost use Rattle.tp_control.specs.Stamps.{newest, is_before, StampsRise};
 
 use std::alloc::Global;

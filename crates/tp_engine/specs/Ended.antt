@@ -1,5 +1,6 @@
 -- How a run ends.
-use Rattle.std.specs.Prelude.{◌≡◌, ℕ, ◌-◌, ◌<◌, zero, suc, List, [], ◌∷◌, length, Option, Some, None}
+use Rattle.std.specs.Prelude.{◌≡◌, ℕ, ◌-◌, ◌<◌, zero, suc, List, [], ◌∷◌, length, Option, Some}
+use Rattle.std.specs.Prelude.{None}
 use Rattle.tp_terms.specs.Term.{Term}
 use Rattle.tp_meaning.specs.World.{World}
 use Rattle.tp_meaning.specs.Search as search

@@ -1,10 +1,12 @@
 -- A run under way.
-use Rattle.std.specs.Prelude.{◌≡◌, ℕ, ◌+◌, ◌<◌, ◌≤◌, List, [], ◌∷◌, length, Option, Some, None, IfSome, ◌⊎◌}
+use Rattle.std.specs.Prelude.{◌≡◌, ℕ, ◌+◌, ◌<◌, ◌≤◌, List, [], ◌∷◌, length, Option, Some, None}
+use Rattle.std.specs.Prelude.{IfSome, ◌⊎◌}
 use Rattle.tp_terms.specs.Term.{Term}
 use Rattle.tp_meaning.specs.World.{World}
 use Rattle.tp_meaning.specs.Search as search
 use Rattle.tp_meaning.specs.Search.{Outcome, try}
-use Rattle.tp_meaning.specs.Machine.{Turn, GoesOn, Ends, machine_of, started, ended, closed, one_more, answer_more, dead_more, turn_by, turned, back_to}
+use Rattle.tp_meaning.specs.Machine.{Turn, GoesOn, Ends, machine_of, started, ended, closed}
+use Rattle.tp_meaning.specs.Machine.{one_more, answer_more, dead_more, turn_by, turned, back_to}
 use Rattle.tp_meaning.specs.Step.{step, searched}
 use Rattle.tp_meaning.specs.declared.DeadCause.{DeadCause}
 use Rattle.tp_meaning.specs.declared.DeadCause.TheVariants.{Failed, Deadlock, Late}

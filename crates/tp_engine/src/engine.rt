@@ -1,12 +1,15 @@
 //! The engine.
 
-ghost use Rattle.std.specs.Prelude.{◌≡◌, IfOk, OnOk, OnErr, IsErr, ◌<◌, ◌+◌, ◌-◌, ◌^◌, length, IsTrue, is_some, Err, None};
+ghost use Rattle.std.specs.Prelude.{◌≡◌, IfOk, OnOk, OnErr, IsErr, ◌<◌, ◌+◌, ◌-◌, ◌^◌, length};
+ghost use Rattle.std.specs.Prelude.{IsTrue, is_some, Err, None};
 ghost use Rattle.tp_terms.specs.Shown.{AreNamed};
 ghost use Rattle.tp_meaning.specs.Body.{body};
 ghost use Rattle.tp_meaning.specs.Machine.{stepped, rewound, resumed};
 ghost use Rattle.tp_meaning.specs.Step.{searched};
 ghost use Rattle.tp_machine.specs.Program.{GoalFits, goal_term};
-ghost use Rattle.tp_engine.specs.Told.{IsStarted, IsSound, IsSame, IsCounted, IsUncounted, IsStacked, IsWhole, MayStep, MayRewind, MayResume, PlaceStands, answer_of, number_after, state_of};
+ghost use Rattle.tp_engine.specs.Told.{IsStarted, IsSound, IsSame, IsCounted, IsUncounted};
+ghost use Rattle.tp_engine.specs.Told.{IsStacked, IsWhole, MayStep, MayRewind, MayResume};
+ghost use Rattle.tp_engine.specs.Told.{PlaceStands, answer_of, number_after, state_of};
 ghost use Rattle.tp_engine.specs.declared.phase.Phase.{Phase};
 ghost use Rattle.tp_engine.specs.declared.start.StartFault.{StartFault};
 

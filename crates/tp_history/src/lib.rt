@@ -1,7 +1,8 @@
 //! The history of a world: its events, in the order in which they came.
 #![tactic(auto)]
 
-ghost use Rattle.std.specs.Prelude.{◌≡◌, ◌++◌, ◌∷◌, [], length, take, nat_eq, slice_get, OnErr, OnOk};
+ghost use Rattle.std.specs.Prelude.{◌≡◌, ◌++◌, ◌∷◌, [], length, take, nat_eq, slice_get, OnErr};
+ghost use Rattle.std.specs.Prelude.{OnOk};
 
 use std::alloc::Global;
 use std::marker::Model;

@@ -1,5 +1,6 @@
 -- Classes of characters, and runs of characters of one class.
-use Rattle.std.specs.Prelude.{ℕ, Bool, false, not, codes, ◌&&◌, ◌||◌, ◌==◌, List, [], ◌∷◌, if◌then◌else◌}
+use Rattle.std.specs.Prelude.{ℕ, Bool, false, not, codes, ◌&&◌, ◌||◌, ◌==◌, List, [], ◌∷◌}
+use Rattle.std.specs.Prelude.{if◌then◌else◌}
 use Rattle.std.specs.List.{list_any, list_all}
 use Rattle.std.specs.Int.{is_in_range}
 use Rattle.std.specs.Char.{is_ascii_uppercase}

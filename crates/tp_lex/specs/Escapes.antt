@@ -1,5 +1,6 @@
 -- Escapes: what a backslash and the characters behind it stand for.
-use Rattle.std.specs.Prelude.{ℕ, ◌&&◌, ◌||◌, ◌==◌, List, [], ◌∷◌, Option, Some, None, Result, Ok, Err, if◌then◌else◌}
+use Rattle.std.specs.Prelude.{ℕ, ◌&&◌, ◌||◌, ◌==◌, List, [], ◌∷◌, Option, Some, None, Result, Ok}
+use Rattle.std.specs.Prelude.{Err, if◌then◌else◌}
 use Rattle.std.specs.Char.{is_digit}
 use lib.Utf8.{scalar}
 use Rattle.tp_lex.specs.Characters.{newline, double_quote, quote, backslash}

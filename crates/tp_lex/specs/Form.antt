@@ -1,14 +1,20 @@
 -- The token that characters begin with, behind layout and comments.
-use Rattle.std.specs.Prelude.{ℕ, ◌-◌, Bool, true, false, ◌&&◌, ◌||◌, ◌==◌, nat_le, List, [], ◌∷◌, take, length, Option, Some, None, Result, Ok, Err, is_ok, if◌then◌else◌}
+use Rattle.std.specs.Prelude.{ℕ, ◌-◌, Bool, true, false, ◌&&◌, ◌||◌, ◌==◌, nat_le, List, [], ◌∷◌}
+use Rattle.std.specs.Prelude.{take, length, Option, Some, None, Result, Ok, Err, is_ok}
+use Rattle.std.specs.Prelude.{if◌then◌else◌}
 use Rattle.std.specs.Char.{is_digit}
-use Rattle.tp_lex.specs.Characters.{double_quote, quote, dot, percent, is_layout, is_graphic, is_name_start, is_variable_start, after_run}
+use Rattle.tp_lex.specs.Characters.{double_quote, quote, dot, percent, is_layout, is_graphic}
+use Rattle.tp_lex.specs.Characters.{is_name_start, is_variable_start, after_run}
 use Rattle.tp_lex.specs.Quotes.{inside, stood_for, after_closing}
 use Rattle.tp_lex.specs.Integers.{integer}
 use Rattle.tp_lex.specs.declared.chars.Class.TheVariants.{Continuing, Graphic}
 use Rattle.tp_lex.specs.declared.token.Fault.{Fault}
 use Rattle.tp_lex.specs.declared.token.Fault.TheVariants.{BadToken, NumberRange}
 use Rattle.tp_lex.specs.declared.token.TokenKind.{TokenKind}
-use Rattle.tp_lex.specs.declared.token.TokenKind.TheVariants.{Name, Quoted, Variable, Integer, Codes, Open, Close, OpenList, CloseList, OpenCurly, CloseCurly, Comma, Bar, End}
+use Rattle.tp_lex.specs.declared.token.TokenKind.TheVariants.{Name, Quoted, Variable, Integer}
+use Rattle.tp_lex.specs.declared.token.TokenKind.TheVariants.{Codes, Open, Close, OpenList}
+use Rattle.tp_lex.specs.declared.token.TokenKind.TheVariants.{CloseList, OpenCurly, CloseCurly}
+use Rattle.tp_lex.specs.declared.token.TokenKind.TheVariants.{Comma, Bar, End}
 
 -- the largest value of an Integer: 2 to the 63rd
 abbrev pub largest : ℕ

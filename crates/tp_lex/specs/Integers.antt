@@ -1,5 +1,6 @@
 -- Integers: the value, without bound, and what follows.
-use Rattle.std.specs.Prelude.{ℕ, ◌==◌, List, [], ◌∷◌, Option, Some, None, Result, Ok, Err, if◌then◌else◌}
+use Rattle.std.specs.Prelude.{ℕ, ◌==◌, List, [], ◌∷◌, Option, Some, None, Result, Ok, Err}
+use Rattle.std.specs.Prelude.{if◌then◌else◌}
 use Rattle.tp_lex.specs.Characters.{newline, quote, backslash}
 use Rattle.tp_lex.specs.Digits.{number, begins_with_digit}
 use Rattle.tp_lex.specs.Escapes.{escape}

@@ -1,5 +1,6 @@
 -- Layout and comments.
-use Rattle.std.specs.Prelude.{ℕ, zero, suc, ◌&&◌, ◌==◌, List, [], ◌∷◌, length, Option, Some, None, Result, Ok, Err, if◌then◌else◌}
+use Rattle.std.specs.Prelude.{ℕ, zero, suc, ◌&&◌, ◌==◌, List, [], ◌∷◌, length, Option, Some, None}
+use Rattle.std.specs.Prelude.{Result, Ok, Err, if◌then◌else◌}
 use Rattle.tp_lex.specs.Characters.{newline, percent, star, slash, is_layout}
 use Rattle.tp_lex.specs.declared.token.Fault.{Fault}
 use Rattle.tp_lex.specs.declared.token.Fault.TheVariants.{Unfinished}

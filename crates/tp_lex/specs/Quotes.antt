@@ -1,5 +1,6 @@
 -- The inside of quotes.
-use Rattle.std.specs.Prelude.{ℕ, zero, suc, ◌==◌, List, [], ◌∷◌, length, Option, Some, None, Result, Ok, Err, if◌then◌else◌}
+use Rattle.std.specs.Prelude.{ℕ, zero, suc, ◌==◌, List, [], ◌∷◌, length, Option, Some, None, Result}
+use Rattle.std.specs.Prelude.{Ok, Err, if◌then◌else◌}
 use Rattle.tp_lex.specs.Characters.{newline, backslash}
 use Rattle.tp_lex.specs.Escapes.{escape}
 use Rattle.tp_lex.specs.declared.token.Fault.{Fault}

@@ -1,5 +1,6 @@
 -- Tokens as whole lists.
-use Rattle.std.specs.Prelude.{ℕ, zero, suc, Bool, true, false, ◌==◌, List, [], ◌∷◌, length, Option, Some, None, Result, Ok, Err}
+use Rattle.std.specs.Prelude.{ℕ, zero, suc, Bool, true, false, ◌==◌, List, [], ◌∷◌, length, Option}
+use Rattle.std.specs.Prelude.{Some, None, Result, Ok, Err}
 use Rattle.tp_lex.specs.Next.{next, token_name, token_value}
 use Rattle.tp_lex.specs.declared.token.TokenKind.{TokenKind}
 use Rattle.tp_lex.specs.declared.token.TokenKind.TheVariants.{End}

@@ -3,7 +3,8 @@
 ghost use Rattle.std.specs.Prelude.{◌≡◌, ◌∷◌, chars, false, IfOk};
 ghost use Rattle.std.specs.Str.{IsUtf8};
 ghost use Rattle.tp_lex.specs.Characters.{is_name_start, is_variable_start};
-ghost use Rattle.tp_lex.specs.Form.{ends_clause, form, graphic_form, integer_form, quotes_form, single, single_form};
+ghost use Rattle.tp_lex.specs.Form.{ends_clause, form, graphic_form, integer_form, quotes_form};
+ghost use Rattle.tp_lex.specs.Form.{single, single_form};
 ghost use Rattle.tp_lex.specs.Integers.{integer};
 ghost use Rattle.tp_lex.specs.Quotes.{after_closing, inside};
 ghost use Rattle.tp_lex.specs.Seen.{answer, beside_chars};

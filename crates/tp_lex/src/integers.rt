@@ -4,7 +4,8 @@ ghost use Rattle.std.specs.Prelude.{◌≡◌, ◌≤◌, chars, IfSome};
 ghost use Rattle.std.specs.Option.{option_map};
 ghost use Rattle.std.specs.Str.{IsUtf8};
 ghost use Rattle.tp_lex.specs.Escapes.{escape};
-ghost use Rattle.tp_lex.specs.Integers.{after_zero, base_of, based, character_code, doubled_quote, escaped_code, integer};
+ghost use Rattle.tp_lex.specs.Integers.{after_zero, base_of, based, character_code, doubled_quote};
+ghost use Rattle.tp_lex.specs.Integers.{escaped_code, integer};
 ghost use Rattle.tp_lex.specs.Seen.{beside_chars, capped};
 
 use crate::chars::split_first;

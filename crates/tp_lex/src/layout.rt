@@ -5,7 +5,8 @@ ghost use Rattle.std.specs.Option.{option_map};
 ghost use Rattle.std.specs.Result.{result_map_both};
 ghost use Rattle.std.specs.Str.{IsUtf8};
 ghost use Rattle.tp_lex.specs.Seen.{answer, text_chars};
-ghost use Rattle.tp_lex.specs.Layout.{after_comment, after_gap, after_line, after_slash, comment_end, past_layout};
+ghost use Rattle.tp_lex.specs.Layout.{after_comment, after_gap, after_line, after_slash};
+ghost use Rattle.tp_lex.specs.Layout.{comment_end, past_layout};
 
 use crate::chars::{is_layout, split_first};
 use crate::token::Fault;

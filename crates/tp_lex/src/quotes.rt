@@ -4,7 +4,8 @@ ghost use Rattle.std.specs.Prelude.{◌≡◌, ◌++◌, chars, string_bytes, If
 ghost use Rattle.std.specs.Str.{IsUtf8};
 ghost use Rattle.tp_terms.specs.Added.{Adds};
 ghost use Rattle.tp_lex.specs.Escapes.{escape};
-ghost use Rattle.tp_lex.specs.Quotes.{after_closing, at_quote, escaped, inside, item, item_chars, stood_for};
+ghost use Rattle.tp_lex.specs.Quotes.{after_closing, at_quote, escaped, inside, item, item_chars};
+ghost use Rattle.tp_lex.specs.Quotes.{stood_for};
 ghost use Rattle.tp_lex.specs.Seen.{answer, beside_chars, text_chars};
 
 use crate::chars::split_first;

@@ -1,6 +1,7 @@
 //! A list of entries in which a binding takes one word.
 
-ghost use Rattle.std.specs.Prelude.{◌≡◌, ◌+◌, ◌<◌, ◌≤◌, [], ◌∷◌, ◌++◌, length, nat_eq, IfSome, IfNone, OnOk, OnErr};
+ghost use Rattle.std.specs.Prelude.{◌≡◌, ◌+◌, ◌<◌, ◌≤◌, [], ◌∷◌, ◌++◌, length, nat_eq, IfSome};
+ghost use Rattle.std.specs.Prelude.{IfNone, OnOk, OnErr};
 
 use crate::entry::Entry;
 use std::alloc::Global;

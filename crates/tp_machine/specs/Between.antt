@@ -1,5 +1,6 @@
 -- Goals that count from one number to another.
-use Rattle.std.specs.Prelude.{◌≡◌, ℕ, ◌+◌, ◌<◌, ◌≤◌, true, is_some, List, length, Some, Ok, Err, Result, ℤ, pos, ◌+ℤ◌}
+use Rattle.std.specs.Prelude.{◌≡◌, ℕ, ◌+◌, ◌<◌, ◌≤◌, true, is_some, List, length, Some, Ok, Err}
+use Rattle.std.specs.Prelude.{Result, ℤ, pos, ◌+ℤ◌}
 use Rattle.tp_terms.specs.declared.cells.Ref.{Ref}
 use Rattle.tp_terms.specs.Term.{Name, Term, Var, Int, Comp, NoMore, More}
 use Rattle.tp_terms.specs.Shown.{name_at, shows, AreNamed}

@@ -3,13 +3,19 @@ use Rattle.std.specs.Prelude.{◌<◌, List, length, codes}
 use Rattle.tp_terms.specs.declared.cells.Cell.{Cell}
 use Rattle.tp_terms.specs.Term.{Name, Term, Int, Atom, Comp, NoMore, More, atom}
 use Rattle.tp_terms.specs.Shown.{name_at, shows}
-use Rattle.tp_meaning.specs.Checks.{unbound, type_error, domain_error, evaluation_error, existence_error, permission_error, representation_error, indicator}
+use Rattle.tp_meaning.specs.Checks.{unbound, type_error, domain_error, evaluation_error}
+use Rattle.tp_meaning.specs.Checks.{existence_error, permission_error, representation_error}
+use Rattle.tp_meaning.specs.Checks.{indicator}
 use Rattle.tp_meaning.specs.Subst.{apply}
 use Rattle.tp_store.specs.Contents.{Contents, subst_of}
 use Rattle.tp_machine.specs.declared.errors.Domain.{Domain}
 use Rattle.tp_machine.specs.declared.errors.Domain.TheVariants.{Duration, StartTime, EndTime}
 use Rattle.tp_machine.specs.declared.errors.Cause.{Cause}
-use Rattle.tp_machine.specs.declared.errors.Cause.TheVariants.{Unbound, Number, Unknown, NotCallable, NotInteger, TooManyArguments, NotAtom, NotList, NoProcess, EmptyName, NameTaken, OutOfDomain, Overflow, Kind}
+use Rattle.tp_machine.specs.declared.errors.Cause.TheVariants.{Unbound, Number, Unknown}
+use Rattle.tp_machine.specs.declared.errors.Cause.TheVariants.{NotCallable, NotInteger}
+use Rattle.tp_machine.specs.declared.errors.Cause.TheVariants.{TooManyArguments, NotAtom, NotList}
+use Rattle.tp_machine.specs.declared.errors.Cause.TheVariants.{NoProcess, EmptyName, NameTaken}
+use Rattle.tp_machine.specs.declared.errors.Cause.TheVariants.{OutOfDomain, Overflow, Kind}
 
 -- a kind of error with what is wanted and a term that isn't so, and one with a word alone
 abbrev pub kind_with : Name → Name → Term → Term

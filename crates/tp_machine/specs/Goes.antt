@@ -13,7 +13,8 @@ use Rattle.tp_state.specs.Going.{IsSafe, Follows}
 use Rattle.tp_state.specs.State.{plain_of, held_of}
 use Rattle.tp_state.specs.Stands.{PlainStands}
 use Rattle.tp_machine.specs.Untried.{untried}
-use Rattle.tp_machine.specs.Machine.{ChoicesFit, GoesOn, IsMachine, Resumes, base_in, choices_in, choices_of, open_at, world_in}
+use Rattle.tp_machine.specs.Machine.{ChoicesFit, GoesOn, IsMachine, Resumes, base_in, choices_in}
+use Rattle.tp_machine.specs.Machine.{choices_of, open_at, world_in}
 
 -- what is next in the machine's world
 abbrev pub untried_in : Machine → Alt → List World

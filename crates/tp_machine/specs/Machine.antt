@@ -1,5 +1,6 @@
 -- The machine of the code: its world and choices, and what holds of them.
-use Rattle.std.specs.Prelude.{◌≡◌, ℕ, Bool, true, false, ◌+◌, ◌<◌, ◌≤◌, ◌^◌, ◌-◌, List, [], ◌∷◌, ◌++◌, map, reverse, drop, length, Option, Some, None, IsTrue, is_some}
+use Rattle.std.specs.Prelude.{◌≡◌, ℕ, Bool, true, false, ◌+◌, ◌<◌, ◌≤◌, ◌^◌, ◌-◌, List, [], ◌∷◌}
+use Rattle.std.specs.Prelude.{◌++◌, map, reverse, drop, length, Option, Some, None, IsTrue, is_some}
 use Rattle.tp_terms.specs.declared.cells.Ref.{Ref}
 use Rattle.tp_terms.specs.Term.{Name, Term, Terms, term_of, count_of}
 use Rattle.tp_terms.specs.Shown.{AreNamed}

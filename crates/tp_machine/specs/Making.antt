@@ -1,5 +1,6 @@
 -- Processes that are made.
-use Rattle.std.specs.Prelude.{◌≡◌, ℕ, ◌+◌, ◌<◌, false, [], ◌∷◌, length, Some, None, Ok, Err, Result, ℤ, int_lt}
+use Rattle.std.specs.Prelude.{◌≡◌, ℕ, ◌+◌, ◌<◌, false, [], ◌∷◌, length, Some, None, Ok, Err, Result}
+use Rattle.std.specs.Prelude.{ℤ, int_lt}
 use Rattle.tp_terms.specs.declared.Limit.TheVariants.{At}
 use Rattle.tp_terms.specs.declared.cells.AtomId.{AtomId}
 use Rattle.tp_terms.specs.declared.cells.Ref.{Ref}

@@ -1,5 +1,6 @@
 -- What a machine meets before a step.
-use Rattle.std.specs.Prelude.{◌≡◌, ℕ, true, false, ◌+◌, ◌<◌, ◌≤◌, ◌^◌, ◌-◌, List, ◌∷◌, length, map, drop, position, Option, Some, None, IfSome, Err}
+use Rattle.std.specs.Prelude.{◌≡◌, ℕ, true, false, ◌+◌, ◌<◌, ◌≤◌, ◌^◌, ◌-◌, List, ◌∷◌, length, map}
+use Rattle.std.specs.Prelude.{drop, position, Option, Some, None, IfSome, Err}
 use Rattle.std.specs.List.{list_any, position_from}
 use Rattle.tp_terms.specs.declared.world.ItemId.{ItemId}
 use Rattle.tp_terms.specs.declared.world.Slot.{Slot}

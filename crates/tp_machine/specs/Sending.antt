@@ -1,5 +1,6 @@
 -- Messages that a process sends.
-use Rattle.std.specs.Prelude.{◌≡◌, ℕ, ◌+◌, ◌<◌, List, [], ◌∷◌, ◌++◌, fold, length, Some, Result, Ok, Err}
+use Rattle.std.specs.Prelude.{◌≡◌, ℕ, ◌+◌, ◌<◌, List, [], ◌∷◌, ◌++◌, fold, length, Some, Result, Ok}
+use Rattle.std.specs.Prelude.{Err}
 use Rattle.tp_terms.specs.declared.cells.Ref.{Ref}
 use Rattle.tp_terms.specs.Term.{cell, term_size}
 use Rattle.tp_meaning.specs.declared.goals.GoalKind.TheVariants.{Process}

@@ -1,6 +1,7 @@
 //! The clauses that a goal is tried with: those that its first argument leaves.
 
-ghost use Rattle.std.specs.Prelude.{◌≡◌, ℕ, ◌+◌, ◌<◌, ◌≤◌, List, [], filter, length, nat_le, not, slice_get, Some, IfNone, IfSome, IfOk, OnOk, OnErr};
+ghost use Rattle.std.specs.Prelude.{◌≡◌, ℕ, ◌+◌, ◌<◌, ◌≤◌, List, [], filter, length, nat_le, not};
+ghost use Rattle.std.specs.Prelude.{slice_get, Some, IfNone, IfSome, IfOk, OnOk, OnErr};
 ghost use Rattle.std.specs.List.{position_from};
 ghost use Rattle.tp_terms.specs.Term.{Name};
 ghost use Rattle.tp_terms.specs.Shown.{AreNamed};
@@ -43,7 +44,8 @@ fn behind(ids: &[ClauseId], id: ClauseId) -> &[ClauseId]
 
 impl<'a> Machine<'a> {
     ghost use Rattle.tp_machine.specs.Machine.{IsMachine, SameProgram};
-    ghost use Rattle.tp_machine.specs.Trying.{AreClauses, AreTried, IsPlaced, Tries, hits_at, places_in};
+    ghost use Rattle.tp_machine.specs.Trying.{AreClauses, AreTried, IsPlaced, Tries, hits_at};
+    ghost use Rattle.tp_machine.specs.Trying.{places_in};
 
     /// The clauses that a goal is tried with, in text order; `None` where no clause has its name
     /// and number of arguments.

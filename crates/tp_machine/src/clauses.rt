@@ -1,6 +1,7 @@
 //! Goals that clauses define.
 
-ghost use Rattle.std.specs.Prelude.{◌≡◌, ℕ, List, ◌+◌, ◌<◌, ◌∷◌, true, false, Ok, Some, None, IfOk, IfSome, OnOk, OnErr, length};
+ghost use Rattle.std.specs.Prelude.{◌≡◌, ℕ, List, ◌+◌, ◌<◌, ◌∷◌, true, false, Ok, Some, None, IfOk};
+ghost use Rattle.std.specs.Prelude.{IfSome, OnOk, OnErr, length};
 ghost use Rattle.std.specs.List.{position_from};
 ghost use Rattle.tp_control.specs.declared.choices.Choice.{Choice};
 ghost use Rattle.tp_machine.specs.declared.task.Call.{Call};
@@ -21,7 +22,8 @@ impl<'a> Machine<'a> {
     ghost use Rattle.tp_machine.specs.Machine.{IsMachine, SameProgram, Steps, Resumes};
     ghost use Rattle.tp_machine.specs.Meets.{Calls, IsCurrent, Meets};
     ghost use Rattle.tp_machine.specs.Goes.{IsKept, Enters, Returns};
-    ghost use Rattle.tp_machine.specs.Trying.{AreTried, HasPushed, IsPlaced, MissesFirst, StillTries, TriesAll, hits_at};
+    ghost use Rattle.tp_machine.specs.Trying.{AreTried, HasPushed, IsPlaced, MissesFirst};
+    ghost use Rattle.tp_machine.specs.Trying.{StillTries, TriesAll, hits_at};
 
     /// A goal goes on with the first of its clauses that has a unifier with it, and a choice is
     /// kept where another one has.
@@ -40,8 +42,8 @@ impl<'a> Machine<'a> {
         self.run_first(task, ids[0], &ids[1..])
     }
 
-    /// A goal goes on with a clause, and a choice is kept where one of the others has a unifier with
-    /// it; where the clause has none, it goes on with the first of the others that has.
+    /// A goal goes on with a clause, and a choice is kept where one of the others has a unifier
+    /// with it; where the clause has none, it goes on with the first of the others that has.
     fn run_first(
         &mut self,
         task: Task,

@@ -1,6 +1,7 @@
 //! The control goals (ISO/IEC 13211-1, 7.8).
 
-ghost use Rattle.std.specs.Prelude.{OnErr, ◌≡◌, None, ◌<◌, ◌^◌, ◌-◌, Some, IfOk, IfSome, OnOk, length};
+ghost use Rattle.std.specs.Prelude.{OnErr, ◌≡◌, None, ◌<◌, ◌^◌, ◌-◌, Some, IfOk, IfSome, OnOk};
+ghost use Rattle.std.specs.Prelude.{length};
 ghost use Rattle.tp_state.specs.Going.{Follows};
 ghost use Rattle.tp_state.specs.State.{plain_of, held_of};
 ghost use Rattle.tp_meaning.specs.declared.goals.GoalKind.TheVariants.{Control};

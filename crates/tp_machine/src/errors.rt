@@ -5,9 +5,12 @@ ghost use Rattle.tp_terms.specs.Term.{Name, Int, atom};
 ghost use Rattle.tp_terms.specs.Names.{IsTable};
 ghost use Rattle.tp_terms.specs.Shown.{AreNamed, IsNamed, StandsBefore, name_at, shows, shown_from};
 ghost use Rattle.tp_store.specs.Contents.{IsNumbered};
-ghost use Rattle.tp_meaning.specs.Checks.{unbound, type_error, domain_error, evaluation_error, representation_error, existence_error, permission_error, indicator, error};
+ghost use Rattle.tp_meaning.specs.Checks.{unbound, type_error, domain_error, evaluation_error};
+ghost use Rattle.tp_meaning.specs.Checks.{representation_error, existence_error, permission_error};
+ghost use Rattle.tp_meaning.specs.Checks.{indicator, error};
 ghost use Rattle.tp_machine.specs.Built.{Built};
-ghost use Rattle.tp_machine.specs.Causes.{CauseStands, HasCulprit, domain_word, kind_term, kind_of_word, kind_with, wrong_domain};
+ghost use Rattle.tp_machine.specs.Causes.{CauseStands, HasCulprit, domain_word, kind_term};
+ghost use Rattle.tp_machine.specs.Causes.{kind_of_word, kind_with, wrong_domain};
 
 use tp_store::Store;
 use tp_terms::symbols::{

@@ -1,6 +1,7 @@
 //! The items of the running process.
 
-ghost use Rattle.std.specs.Prelude.{OnErr, ◌≡◌, ◌++◌, ◌∷◌, [], ℕ, List, Some, None, IfOk, OnOk, take};
+ghost use Rattle.std.specs.Prelude.{OnErr, ◌≡◌, ◌++◌, ◌∷◌, [], ℕ, List, Some, None, IfOk, OnOk};
+ghost use Rattle.std.specs.Prelude.{take};
 ghost use Rattle.tp_control.specs.declared.choices.Choice.{Choice};
 ghost use Rattle.tp_control.specs.declared.frames.Item.{Item};
 

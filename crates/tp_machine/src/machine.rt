@@ -33,7 +33,8 @@ pub struct Machine<'a> {
 }
 
 impl<'a> Machine<'a> {
-    ghost use Rattle.tp_machine.specs.Machine.{IsMachine, IsBegun, IsBack, SameProgram, Steps, Forgets, Rewinds, Resumes};
+    ghost use Rattle.tp_machine.specs.Machine.{IsMachine, IsBegun, IsBack, SameProgram, Steps};
+    ghost use Rattle.tp_machine.specs.Machine.{Forgets, Rewinds, Resumes};
 
     /// The start of the goal, where it has a body.
     pub fn start(

@@ -1,6 +1,7 @@
 //! Messages that processes take.
 
-ghost use Rattle.std.specs.Prelude.{OnErr, ◌≡◌, ◌+◌, ◌<◌, ◌^◌, ◌-◌, Some, IfOk, IfSome, OnOk, length, slice_get};
+ghost use Rattle.std.specs.Prelude.{OnErr, ◌≡◌, ◌+◌, ◌<◌, ◌^◌, ◌-◌, Some, IfOk, IfSome, OnOk};
+ghost use Rattle.std.specs.Prelude.{length, slice_get};
 ghost use Rattle.tp_meaning.specs.declared.goals.GoalKind.TheVariants.{Process};
 ghost use Rattle.tp_meaning.specs.declared.goals.ProcessGoal.{ProcessGoal};
 

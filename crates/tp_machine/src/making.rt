@@ -63,7 +63,8 @@ fn end_given(given: Given) -> Ending
 impl<'a> Machine<'a> {
     ghost use Rattle.tp_machine.specs.Enters.{Rests};
     ghost use Rattle.tp_machine.specs.Machine.{IsMachine, SameProgram, Steps};
-    ghost use Rattle.tp_machine.specs.Making.{HasEnd, HasGoal, HasName, HasStart, IsEnd, IsFree, IsName, IsStart};
+    ghost use Rattle.tp_machine.specs.Making.{HasEnd, HasGoal, HasName, HasStart, IsEnd, IsFree};
+    ghost use Rattle.tp_machine.specs.Making.{IsName, IsStart};
     ghost use Rattle.tp_machine.specs.Meets.{Calls};
 
     /// `new` makes a process.

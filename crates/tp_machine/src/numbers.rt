@@ -1,6 +1,7 @@
 //! Numbers that are counted.
 
-ghost use Rattle.std.specs.Prelude.{◌≡◌, ◌<◌, ◌+◌, ◌+ℤ◌, ◌&&◌, pos, true, int_le, int_lt, List, length, IfOk, OnOk};
+ghost use Rattle.std.specs.Prelude.{◌≡◌, ◌<◌, ◌+◌, ◌+ℤ◌, ◌&&◌, pos, true, int_le, int_lt, List};
+ghost use Rattle.std.specs.Prelude.{length, IfOk, OnOk};
 ghost use Rattle.std.specs.Ordering.{int_eq};
 ghost use Rattle.tp_terms.specs.declared.cells.Cell.{Cell};
 ghost use Rattle.tp_terms.specs.Term.{Name, Int};

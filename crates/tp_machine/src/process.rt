@@ -24,7 +24,8 @@ fn time_cell(state: &State) -> Cell
 }
 
 impl<'a> Machine<'a> {
-    ghost use Rattle.tp_machine.specs.Acting.{ConditionEntered, ConditionStands, Delays, HasNoMail, Tells, Unites};
+    ghost use Rattle.tp_machine.specs.Acting.{ConditionEntered, ConditionStands, Delays, HasNoMail};
+    ghost use Rattle.tp_machine.specs.Acting.{Tells, Unites};
     ghost use Rattle.tp_control.specs.declared.choices.Alt.{Alt};
     ghost use Rattle.tp_machine.specs.Enters.{Rests};
     ghost use Rattle.tp_machine.specs.Goes.{Returns, ResumesSecond};

@@ -1,6 +1,7 @@
 //! Messages that processes send.
 
-ghost use Rattle.std.specs.Prelude.{OnErr, ◌≡◌, ◌+◌, ◌<◌, ◌↔◌, Some, IfOk, IsTrue, length, slice_get};
+ghost use Rattle.std.specs.Prelude.{OnErr, ◌≡◌, ◌+◌, ◌<◌, ◌↔◌, Some, IfOk, IsTrue, length};
+ghost use Rattle.std.specs.Prelude.{slice_get};
 ghost use Rattle.tp_meaning.specs.declared.goals.GoalKind.TheVariants.{Process};
 ghost use Rattle.tp_meaning.specs.declared.goals.ProcessGoal.{ProcessGoal};
 ghost use Rattle.tp_terms.specs.Shown.{name_at};
@@ -51,7 +52,8 @@ fn number_at(all: &[usize], place: usize) -> usize
 impl<'a> Machine<'a> {
     ghost use Rattle.tp_machine.specs.Machine.{IsMachine, SameProgram, Steps};
     ghost use Rattle.tp_machine.specs.Meets.{Calls};
-    ghost use Rattle.tp_machine.specs.Sending.{AreReceivers, FindsReceiver, IsElement, IsNext, Sends, left_of, receivers_at};
+    ghost use Rattle.tp_machine.specs.Sending.{AreReceivers, FindsReceiver, IsElement, IsNext};
+    ghost use Rattle.tp_machine.specs.Sending.{Sends, left_of, receivers_at};
     ghost use Rattle.tp_store.specs.Contents.{seen};
 
     /// `send` adds a message to the box of a process, or to that of each process of a list.

@@ -1,5 +1,6 @@
 -- Boxes of messages, and what a change of one of them makes of all.
-use Rattle.std.specs.Prelude.{◌≡◌, ℕ, zero, suc, ◌<◌, ◌≤◌, List, [], ◌∷◌, length, map, Some, slice_get, slice_index_or}
+use Rattle.std.specs.Prelude.{◌≡◌, ℕ, zero, suc, ◌<◌, ◌≤◌, List, [], ◌∷◌, length, map, Some}
+use Rattle.std.specs.Prelude.{slice_get, slice_index_or}
 use Rattle.std.specs.List.{insert, remove}
 use Rattle.std.specs.VecDeque.{deque_capacity}
 use Rattle.std.specs.Global.{Global}

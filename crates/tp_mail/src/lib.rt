@@ -1,7 +1,8 @@
 //! The boxes of messages that processes send each other.
 #![tactic(auto)]
 
-ghost use Rattle.std.specs.Prelude.{◌≡◌, ℕ, ◌+◌, ◌-◌, ◌<◌, ◌≤◌, [], ◌∷◌, ◌++◌, length, map, OnOk, OnErr, IfOk, IfSome, IfNone, slice_get};
+ghost use Rattle.std.specs.Prelude.{◌≡◌, ℕ, ◌+◌, ◌-◌, ◌<◌, ◌≤◌, [], ◌∷◌, ◌++◌, length, map, OnOk};
+ghost use Rattle.std.specs.Prelude.{OnErr, IfOk, IfSome, IfNone, slice_get};
 ghost use Rattle.std.specs.List.{insert, remove};
 ghost use Rattle.tp_log.specs.Front.{front};
 ghost use Rattle.tp_mail.specs.Mail.{box_of, room_of, at_box, AllAtMost, Receives};

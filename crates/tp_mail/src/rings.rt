@@ -1,10 +1,12 @@
 //! Boxes as rings of messages.
 
-ghost use Rattle.std.specs.Prelude.{◌≡◌, ℕ, ◌+◌, ◌-◌, ◌<◌, ◌≤◌, List, [], ◌∷◌, ◌++◌, length, map, OnOk, OnErr, IfOk, Some, slice_get};
+ghost use Rattle.std.specs.Prelude.{◌≡◌, ℕ, ◌+◌, ◌-◌, ◌<◌, ◌≤◌, List, [], ◌∷◌, ◌++◌, length, map};
+ghost use Rattle.std.specs.Prelude.{OnOk, OnErr, IfOk, Some, slice_get};
 ghost use Rattle.std.specs.List.{insert, remove};
 ghost use Rattle.std.specs.VecDeque.{deque_len, deque_capacity};
 ghost use Rattle.tp_log.specs.Front.{front};
-ghost use Rattle.tp_mail.specs.Mail.{box_of, room_of, at_box, AllAtMost, Receives, boxes_of, rooms_of, mail_of};
+ghost use Rattle.tp_mail.specs.Mail.{box_of, room_of, at_box, AllAtMost, Receives, boxes_of};
+ghost use Rattle.tp_mail.specs.Mail.{rooms_of, mail_of};
 
 use std::collections::VecDeque;
 use tp_log::{Entry, Log};

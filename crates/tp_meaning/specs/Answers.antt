@@ -1,9 +1,14 @@
 -- What a built-in goal answers, and the rows that go by cases. Arguments are seen under the
 -- substitution.
-use Rattle.std.specs.Prelude.{ℕ, zero, suc, ◌+◌, Bool, true, false, not, nat_lt, List, [], ◌∷◌, map, length, Some, None, Ok, Err, ℤ, pos, codes, if◌then◌else◌, ◌&&◌, ◌||◌}
-use Rattle.tp_terms.specs.Term.{Name, Term, Terms, Var, Atom, Comp, NoMore, More, names_eq, count_of, name_term, args_of, arg_at, terms_in, terms_of, atom, nat, list_term}
+use Rattle.std.specs.Prelude.{ℕ, zero, suc, ◌+◌, Bool, true, false, not, nat_lt, List, [], ◌∷◌, map}
+use Rattle.std.specs.Prelude.{length, Some, None, Ok, Err, ℤ, pos, codes, if◌then◌else◌, ◌&&◌, ◌||◌}
+use Rattle.tp_terms.specs.Term.{Name, Term, Terms, Var, Atom, Comp, NoMore, More, names_eq}
+use Rattle.tp_terms.specs.Term.{count_of, name_term, args_of, arg_at, terms_in, terms_of, atom, nat}
+use Rattle.tp_terms.specs.Term.{list_term}
 use Rattle.tp_meaning.specs.Subst.{Subst, mgu}
-use Rattle.tp_meaning.specs.Checks.{Checked, ◌>>=◌, ◌>>◌, ◌if◌, unbound, type_error, domain_error, representation_error, bound, integer, name_in, args_in, atomic, natural, arity_fits}
+use Rattle.tp_meaning.specs.Checks.{Checked, ◌>>=◌, ◌>>◌, ◌if◌, unbound, type_error, domain_error}
+use Rattle.tp_meaning.specs.Checks.{representation_error, bound, integer, name_in, args_in, atomic}
+use Rattle.tp_meaning.specs.Checks.{natural, arity_fits}
 
 -- whether a goal succeeds, and then with which substitution and next variable
 pub data Answer : Type 0 where

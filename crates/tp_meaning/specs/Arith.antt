@@ -1,11 +1,14 @@
 -- Arithmetic: the value of a term. Operations are on whole numbers without bound, and each result
 -- has to be within 64 bits.
-use Rattle.std.specs.Prelude.{ℕ, zero, suc, ◌/◌, ◌^◌, Bool, ◌||◌, List, [], ◌∷◌, Option, Some, None, Ok, Err, ℤ, pos, negsuc, ◌+ℤ◌, ◌-ℤ◌, ◌*ℤ◌, neg_ℤ, unsigned_abs, int_lt, int_div, codes, if◌then◌else◌}
+use Rattle.std.specs.Prelude.{ℕ, zero, suc, ◌/◌, ◌^◌, Bool, ◌||◌, List, [], ◌∷◌, Option, Some, None}
+use Rattle.std.specs.Prelude.{Ok, Err, ℤ, pos, negsuc, ◌+ℤ◌, ◌-ℤ◌, ◌*ℤ◌, neg_ℤ, unsigned_abs}
+use Rattle.std.specs.Prelude.{int_lt, int_div, codes, if◌then◌else◌}
 use Rattle.std.specs.Int.{w64, int_bit_and, int_bit_or, int_bit_not, int_min, int_max, int_signum}
 use Prim.Native.String.{String}
 use Rattle.tp_terms.specs.Term.{Name, Term, Var, Int, Atom, Comp, NoMore, More, count_of, names_eq}
 use Rattle.tp_meaning.specs.Subst.{Subst, apply}
-use Rattle.tp_meaning.specs.Checks.{Checked, ◌>>=◌, ◌>>◌, ◌if◌, unbound, type_error, evaluation_error, indicator}
+use Rattle.tp_meaning.specs.Checks.{Checked, ◌>>=◌, ◌>>◌, ◌if◌, unbound, type_error}
+use Rattle.tp_meaning.specs.Checks.{evaluation_error, indicator}
 use Rattle.tp_meaning.specs.declared.evaluables.UnaryOperation.{UnaryOperation}
 use Rattle.tp_meaning.specs.declared.evaluables.UnaryOperation.TheVariants as unary
 use Rattle.tp_meaning.specs.declared.evaluables.BinaryOperation.{BinaryOperation}

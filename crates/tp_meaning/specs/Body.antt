@@ -1,5 +1,6 @@
 -- Terms as goals.
-use Rattle.std.specs.Prelude.{Bool, [], ◌∷◌, Option, Some, None, Ok, Err, codes, if◌then◌else◌, ◌||◌}
+use Rattle.std.specs.Prelude.{Bool, [], ◌∷◌, Option, Some, None, Ok, Err, codes, if◌then◌else◌}
+use Rattle.std.specs.Prelude.{◌||◌}
 use Rattle.tp_terms.specs.Term.{Name, Term, Var, Int, Atom, Comp, NoMore, More, names_eq, comp}
 use Rattle.tp_meaning.specs.Checks.{Checked, unbound, type_error}
 

@@ -8,7 +8,8 @@ use Rattle.tp_meaning.specs.Subst.{Subst, mgu}
 use Rattle.tp_meaning.specs.Copy.{copy_of}
 use Rattle.tp_meaning.specs.Arith.{compared, value}
 use Rattle.tp_meaning.specs.Checks.{Checked, ◌>>=◌}
-use Rattle.tp_meaning.specs.Answers.{Answer, No, succeeds, unifies, functor, arg, univ, atom_length, atom_codes}
+use Rattle.tp_meaning.specs.Answers.{Answer, No, succeeds, unifies, functor, arg, univ, atom_length}
+use Rattle.tp_meaning.specs.Answers.{atom_codes}
 use Rattle.tp_meaning.specs.declared.goals.BuiltId.{BuiltId}
 use Rattle.tp_meaning.specs.declared.goals.BuiltId.TheVariants as built
 

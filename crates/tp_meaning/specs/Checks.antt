@@ -1,5 +1,6 @@
 -- Checks that are made in order, and the kinds of error that they raise.
-use Rattle.std.specs.Prelude.{ℕ, Bool, true, false, nat_lt, [], ◌∷◌, Result, Ok, Err, ℤ, pos, negsuc, if◌then◌else◌}
+use Rattle.std.specs.Prelude.{ℕ, Bool, true, false, nat_lt, [], ◌∷◌, Result, Ok, Err, ℤ, pos}
+use Rattle.std.specs.Prelude.{negsuc, if◌then◌else◌}
 use Prim.Native.String.{String}
 use Rattle.tp_terms.specs.Term.{Name, Term, Terms, Var, Int, Atom, Comp, atom, comp, nat}
 

@@ -1,5 +1,6 @@
 -- Clauses, and the goals that they define.
-use Rattle.std.specs.Prelude.{ℕ, ◌+◌, nat_eq, ◌&&◌, List, [], ◌∷◌, ◌++◌, Option, Some, None, Ok, Err, if◌then◌else◌}
+use Rattle.std.specs.Prelude.{ℕ, ◌+◌, nat_eq, ◌&&◌, List, [], ◌∷◌, ◌++◌, Option, Some, None, Ok}
+use Rattle.std.specs.Prelude.{Err, if◌then◌else◌}
 use Rattle.std.specs.List.{filter_map}
 use Rattle.tp_terms.specs.Term.{Name, Term, Terms, Var, names_eq, count_of, term_of, replaced}
 use Rattle.tp_meaning.specs.Subst.{mgu}

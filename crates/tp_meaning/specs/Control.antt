@@ -1,10 +1,16 @@
 -- The control goals.
-use Rattle.std.specs.Prelude.{ℕ, zero, suc, ◌+◌, ◌&&◌, nat_eq, List, [], ◌∷◌, ◌++◌, Option, Some, None, Ok, Err, ℤ, pos, ◌+ℤ◌, int_lt, int_le, codes, if◌then◌else◌}
+use Rattle.std.specs.Prelude.{ℕ, zero, suc, ◌+◌, ◌&&◌, nat_eq, List, [], ◌∷◌, ◌++◌, Option, Some}
+use Rattle.std.specs.Prelude.{None, Ok, Err, ℤ, pos, ◌+ℤ◌, int_lt, int_le, codes, if◌then◌else◌}
 use Rattle.std.specs.Ordering.{int_eq}
-use Rattle.tp_terms.specs.Term.{Name, Term, Terms, Var, Int, Atom, Comp, NoMore, More, names_eq, count_of, args_of, with_args, term_of, atom}
+use Rattle.tp_terms.specs.Term.{Name, Term, Terms, Var, Int, Atom, Comp, NoMore, More, names_eq}
+use Rattle.tp_terms.specs.Term.{count_of, args_of, with_args, term_of, atom}
 use Rattle.tp_meaning.specs.declared.goals.ControlGoal.{ControlGoal}
-use Rattle.tp_meaning.specs.declared.goals.ControlGoal.TheVariants.{True, Fail, Conjunction, Cut, Disjunction, IfThen, NotProvable, Call, Once, Repeat, Between}
-use Rattle.tp_meaning.specs.Checks.{Checked, ◌>>=◌, ◌>>◌, bound, callable, arity_fits, integer_given, type_error}
+use Rattle.tp_meaning.specs.declared.goals.ControlGoal.TheVariants.{True, Fail, Conjunction, Cut}
+use Rattle.tp_meaning.specs.declared.goals.ControlGoal.TheVariants.{Disjunction, IfThen}
+use Rattle.tp_meaning.specs.declared.goals.ControlGoal.TheVariants.{NotProvable, Call, Once, Repeat}
+use Rattle.tp_meaning.specs.declared.goals.ControlGoal.TheVariants.{Between}
+use Rattle.tp_meaning.specs.Checks.{Checked, ◌>>=◌, ◌>>◌, bound, callable, arity_fits}
+use Rattle.tp_meaning.specs.Checks.{integer_given, type_error}
 use Rattle.tp_meaning.specs.Body.{enter}
 use Rattle.tp_meaning.specs.World.{World, Item, Goal}
 use Rattle.tp_meaning.specs.World as item

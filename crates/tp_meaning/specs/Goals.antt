@@ -1,6 +1,7 @@
 -- The goals that the language has of its own: control goals, process goals and built-ins. No clause
 -- may define them.
-use Rattle.std.specs.Prelude.{ℕ, Bool, nat_le, ◌&&◌, List, [], ◌∷◌, Option, Some, None, is_some, if◌then◌else◌, codes}
+use Rattle.std.specs.Prelude.{ℕ, Bool, nat_le, ◌&&◌, List, [], ◌∷◌, Option, Some, None, is_some}
+use Rattle.std.specs.Prelude.{if◌then◌else◌, codes}
 use Prim.Native.String.{String}
 use Rattle.tp_terms.specs.Term.{Name, names_eq}
 pub use Rattle.tp_meaning.specs.declared.goals.GoalKind.{GoalKind}

@@ -1,7 +1,9 @@
 -- A machine that searches: one current world, and the choices that stand open.
-use Rattle.std.specs.Prelude.{◌≡◌, ℕ, ◌+◌, ◌<◌, Bool, true, false, nat_lt, if◌then◌else◌, List, [], ◌∷◌, ◌++◌, length, Option, Some, None}
+use Rattle.std.specs.Prelude.{◌≡◌, ℕ, ◌+◌, ◌<◌, Bool, true, false, nat_lt, if◌then◌else◌, List, []}
+use Rattle.std.specs.Prelude.{◌∷◌, ◌++◌, length, Option, Some, None}
 use Rattle.std.specs.List.{AllByRecursion}
-use Rattle.tp_meaning.specs.Search.{DeadCause, Failed, Deadlock, Late, Step, Searched, End, Fails, Stopped, Outcome, after, try}
+use Rattle.tp_meaning.specs.Search.{DeadCause, Failed, Deadlock, Late, Step, Searched, End, Fails}
+use Rattle.tp_meaning.specs.Search.{Stopped, Outcome, after, try}
 use Rattle.tp_meaning.specs.Search as search
 
 -- a choice: a world that branched, its stamp, and its worlds that are untried, in order

@@ -1,13 +1,21 @@
 -- The goals of processes.
-use Rattle.std.specs.Prelude.{ℕ, ◌+◌, Bool, true, false, is_some, List, [], ◌∷◌, ◌++◌, length, remove, fold, None, Some, Ok, Err, ℤ, ◌+ℤ◌, int_lt, codes, if◌then◌else◌}
-use Rattle.tp_terms.specs.Term.{Name, Term, Terms, Var, Int, Atom, Comp, NoMore, More, names_eq, comp}
+use Rattle.std.specs.Prelude.{ℕ, ◌+◌, Bool, true, false, is_some, List, [], ◌∷◌, ◌++◌, length}
+use Rattle.std.specs.Prelude.{remove, fold, None, Some, Ok, Err, ℤ, ◌+ℤ◌, int_lt, codes}
+use Rattle.std.specs.Prelude.{if◌then◌else◌}
+use Rattle.tp_terms.specs.Term.{Name, Term, Terms, Var, Int, Atom, Comp, NoMore, More, names_eq}
+use Rattle.tp_terms.specs.Term.{comp}
 use Rattle.tp_meaning.specs.declared.goals.ProcessGoal.{ProcessGoal}
 use Rattle.tp_meaning.specs.declared.goals.ProcessGoal.TheVariants as goal
 use Rattle.tp_meaning.specs.Subst.{mgu}
 use Rattle.tp_meaning.specs.Arith.{value, greatest}
-use Rattle.tp_meaning.specs.Checks.{Checked, ◌>>=◌, ◌>>◌, ◌if◌, unbound, type_error, domain_error, evaluation_error, existence_error, permission_error, bound, name_in, callable, natural}
+use Rattle.tp_meaning.specs.Checks.{Checked, ◌>>=◌, ◌>>◌, ◌if◌, unbound, type_error, domain_error}
+use Rattle.tp_meaning.specs.Checks.{evaluation_error, existence_error, permission_error, bound}
+use Rattle.tp_meaning.specs.Checks.{name_in, callable, natural}
 use Rattle.tp_meaning.specs.Body.{enter}
-use Rattle.tp_meaning.specs.World.{World, Limit, At, Inf, ProcStatus, Scheduled, AwaitsMail, Parked, Goal, Commit, Retry, New, Hold, Send, Take, Note, world_under, with_event, with_slot, with_status, with_box, let_go, stamped, number_of, name_at, status_at, box_at}
+use Rattle.tp_meaning.specs.World.{World, Limit, At, Inf, ProcStatus, Scheduled, AwaitsMail, Parked}
+use Rattle.tp_meaning.specs.World.{Goal, Commit, Retry, New, Hold, Send, Take, Note, world_under}
+use Rattle.tp_meaning.specs.World.{with_event, with_slot, with_status, with_box, let_go, stamped}
+use Rattle.tp_meaning.specs.World.{number_of, name_at, status_at, box_at}
 use Rattle.tp_meaning.specs.Turn.{Turn, Gives, going, one, two, some, unified}
 use Rattle.tp_meaning.specs.Control.{arg}
 

@@ -2,7 +2,9 @@
 use Rattle.std.specs.Prelude.{◌≡◌, ℕ, suc, ◌-◌, true, false, List, [], ◌∷◌, length, None}
 use Rattle.tp_terms.specs.Term.{Term}
 use Rattle.tp_meaning.specs.World.{World}
-use Rattle.tp_meaning.specs.Search.{DeadCause, Searched, Success, Dead, Raise, Commit, Branch, Fails, Raised, Budget, after, with_step, followed_by, dead_end, answer, capped, goes_on, each, try}
+use Rattle.tp_meaning.specs.Search.{DeadCause, Searched, Success, Dead, Raise, Commit, Branch}
+use Rattle.tp_meaning.specs.Search.{Fails, Raised, Budget, after, with_step, followed_by, dead_end}
+use Rattle.tp_meaning.specs.Search.{answer, capped, goes_on, each, try}
 
 -- The search of w with n steps left and k answers wanted, by what the step of w gives, and the
 -- search of worlds in order, made by a Branch at stamp s.

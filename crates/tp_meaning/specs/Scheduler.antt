@@ -1,7 +1,10 @@
 -- The scheduler, which acts where no process runs.
-use Rattle.std.specs.Prelude.{ℕ, suc, Bool, true, false, ◌&&◌, List, [], ◌∷◌, Option, Some, None, ℤ, int_lt, slice_get, if◌then◌else◌}
+use Rattle.std.specs.Prelude.{ℕ, suc, Bool, true, false, ◌&&◌, List, [], ◌∷◌, Option, Some, None, ℤ}
+use Rattle.std.specs.Prelude.{int_lt, slice_get, if◌then◌else◌}
 use Rattle.std.specs.List.{list_any}
-use Rattle.tp_meaning.specs.World.{World, Process, Slot, At, Inf, Scheduled, Running, AwaitsMail, Ended, Parked, Start, with_process, with_status, with_event, stamped}
+use Rattle.tp_meaning.specs.World.{World, Process, Slot, At, Inf, Scheduled, Running, AwaitsMail}
+use Rattle.tp_meaning.specs.World.{Ended, Parked, Start, with_process, with_status, with_event}
+use Rattle.tp_meaning.specs.World.{stamped}
 use Rattle.tp_meaning.specs.Search.{Deadlock, Late, Success, Dead}
 use Rattle.tp_meaning.specs.Turn.{Gives, one}
 

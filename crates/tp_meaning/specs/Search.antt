@@ -1,5 +1,6 @@
 -- What a depth-first search of worlds finds, whatever a world and a step of it are.
-use Rattle.std.specs.Prelude.{ℕ, zero, suc, ◌+◌, ◌-◌, min, Bool, true, false, nat_eq, nat_lt, if◌then◌else◌, List, [], ◌∷◌, ◌++◌, map, length, Option, Some, None}
+use Rattle.std.specs.Prelude.{ℕ, zero, suc, ◌+◌, ◌-◌, min, Bool, true, false, nat_eq, nat_lt}
+use Rattle.std.specs.Prelude.{if◌then◌else◌, List, [], ◌∷◌, ◌++◌, map, length, Option, Some, None}
 pub use Rattle.tp_meaning.specs.declared.DeadCause.{DeadCause}
 pub use Rattle.tp_meaning.specs.declared.DeadCause.TheVariants.{Failed, Deadlock, Late}
 

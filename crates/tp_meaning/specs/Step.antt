@@ -5,7 +5,8 @@ use Rattle.tp_meaning.specs.Checks.{Checked, ◌>>=◌, unbound, type_error, unk
 use Rattle.tp_meaning.specs.Answers.{Answer, Yes, No}
 use Rattle.tp_meaning.specs.Builtin.{of_args}
 use Rattle.tp_meaning.specs.declared.goals.BuiltId.{BuiltId}
-use Rattle.tp_meaning.specs.World.{World, Item, Goal, Retry, Ended, End, start, world_under, with_status, with_event, let_go, stamped, items_at}
+use Rattle.tp_meaning.specs.World.{World, Item, Goal, Retry, Ended, End, start, world_under}
+use Rattle.tp_meaning.specs.World.{with_status, with_event, let_go, stamped, items_at}
 use Rattle.tp_meaning.specs.World as item
 use Rattle.tp_meaning.specs.Search.{Failed, Dead, Commit, Searched, Outcome, try}
 use Rattle.tp_meaning.specs.Turn.{Turn, Gives, going, one, raised_at}

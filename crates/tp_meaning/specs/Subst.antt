@@ -1,7 +1,9 @@
 -- Substitutions, and the one that solves an equation.
-use Rattle.std.specs.Prelude.{◌≡◌, ℕ, zero, suc, ◌+◌, ◌<◌, true, nat_eq, nat_lt, ◌&&◌, if◌then◌else◌, List, [], ◌∷◌, ◌++◌, map, Option, Some, None}
+use Rattle.std.specs.Prelude.{◌≡◌, ℕ, zero, suc, ◌+◌, ◌<◌, true, nat_eq, nat_lt, ◌&&◌}
+use Rattle.std.specs.Prelude.{if◌then◌else◌, List, [], ◌∷◌, ◌++◌, map, Option, Some, None}
 use Rattle.std.specs.List.{AllByRecursion}
-use Rattle.tp_terms.specs.Term.{Term, Terms, Var, Int, Atom, Comp, More, replaced, occurs, term_eq, names_eq, term_size, count_of}
+use Rattle.tp_terms.specs.Term.{Term, Terms, Var, Int, Atom, Comp, More, replaced, occurs, term_eq}
+use Rattle.tp_terms.specs.Term.{names_eq, term_size, count_of}
 
 -- a finite map from variable numbers to terms, in order of the numbers
 abbrev pub Subst : Type 0

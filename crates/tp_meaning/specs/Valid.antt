@@ -1,9 +1,13 @@
 -- What holds of every world that a search comes to.
-use Rattle.std.specs.Prelude.{◌≡◌, ℕ, ◌+◌, ◌<◌, ◌≤◌, Bool, true, false, nat_eq, List, [], ◌∷◌, map, length, Option, Some, None, ℤ, pos, int_le, IfSome, if◌then◌else◌}
+use Rattle.std.specs.Prelude.{◌≡◌, ℕ, ◌+◌, ◌<◌, ◌≤◌, Bool, true, false, nat_eq, List, [], ◌∷◌, map}
+use Rattle.std.specs.Prelude.{length, Option, Some, None, ℤ, pos, int_le, IfSome, if◌then◌else◌}
 use Rattle.std.specs.List.{AllByRecursion}
 use Rattle.tp_terms.specs.Term.{Name, Term, Terms, Var, Int, Atom, Comp, NoMore, More, names_eq}
 use Rattle.tp_meaning.specs.Subst.{IsSubst}
-use Rattle.tp_meaning.specs.World.{World, Process, ProcStatus, Scheduled, Running, AwaitsMail, Ended, Parked, Item, Goal, Commit, Retry, Slot, goes_before, Event, EventKind, New, Start, End, Hold, Send, Take, Note, status_at}
+use Rattle.tp_meaning.specs.World.{World, Process, ProcStatus, Scheduled, Running, AwaitsMail}
+use Rattle.tp_meaning.specs.World.{Ended, Parked, Item, Goal, Commit, Retry, Slot, goes_before}
+use Rattle.tp_meaning.specs.World.{Event, EventKind, New, Start, End, Hold, Send, Take, Note}
+use Rattle.tp_meaning.specs.World.{status_at}
 use Rattle.tp_meaning.specs.Scheduler.{is_late}
 use Rattle.tp_meaning.specs.Search.{Step, Success, Dead, Raise, Branch}
 use Rattle.tp_meaning.specs.Search as search

@@ -1,10 +1,13 @@
 -- A world: everything that a step reads and changes, in one value.
-use Rattle.std.specs.Prelude.{ℕ, zero, suc, ◌+◌, Bool, true, false, ◌&&◌, ◌||◌, nat_lt, List, [], ◌∷◌, ◌++◌, map, Option, Some, None, ℤ, pos, int_lt, codes, slice_get, if◌then◌else◌}
+use Rattle.std.specs.Prelude.{ℕ, zero, suc, ◌+◌, Bool, true, false, ◌&&◌, ◌||◌, nat_lt, List, []}
+use Rattle.std.specs.Prelude.{◌∷◌, ◌++◌, map, Option, Some, None, ℤ, pos, int_lt, codes, slice_get}
+use Rattle.std.specs.Prelude.{if◌then◌else◌}
 use Rattle.std.specs.Ordering.{int_eq}
 pub use Rattle.tp_terms.specs.declared.Limit.{Limit}
 pub use Rattle.tp_terms.specs.declared.Limit.TheVariants.{At, Inf}
 pub use Rattle.tp_terms.specs.declared.ProcStatus.{ProcStatus}
-pub use Rattle.tp_terms.specs.declared.ProcStatus.TheVariants.{Scheduled, Running, AwaitsMail, Ended, Parked}
+pub use Rattle.tp_terms.specs.declared.ProcStatus.TheVariants.{Scheduled, Running, AwaitsMail}
+pub use Rattle.tp_terms.specs.declared.ProcStatus.TheVariants.{Ended, Parked}
 use Rattle.tp_terms.specs.Term.{Name, Term, names_eq}
 use Rattle.tp_meaning.specs.Subst.{Subst, apply}
 use Rattle.tp_meaning.specs.Body.{body}

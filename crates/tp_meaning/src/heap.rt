@@ -1,10 +1,13 @@
 //! Terms that can be looked at, built and unified, whatever holds them.
 
-ghost use Rattle.std.specs.Prelude.{◌≡◌, ◌≢◌, ◌<◌, length, chars, encode_utf8_all, true, Ok, OnOk, OnErr, IfOk};
+ghost use Rattle.std.specs.Prelude.{◌≡◌, ◌≢◌, ◌<◌, length, chars, encode_utf8_all, true, Ok, OnOk};
+ghost use Rattle.std.specs.Prelude.{OnErr, IfOk};
 ghost use Rattle.tp_terms.specs.Names.{StandsAt};
 ghost use Rattle.tp_terms.specs.Shown.{name_at};
 ghost use Rattle.tp_meaning.specs.Order.{term_cmp};
-ghost use Rattle.tp_meaning.specs.Heap.{Heap, IsHeap, CanStand, IsTop, AddsCells, AddsBindings, FindsUnifier, IsUnifiable, Copies, with_cell, with_fresh, with_name_too, seen};
+ghost use Rattle.tp_meaning.specs.Heap.{Heap, IsHeap, CanStand, IsTop, AddsCells, AddsBindings};
+ghost use Rattle.tp_meaning.specs.Heap.{FindsUnifier, IsUnifiable, Copies, with_cell, with_fresh};
+ghost use Rattle.tp_meaning.specs.Heap.{with_name_too, seen};
 
 use std::cmp::Ordering;
 use tp_terms::{AtomId, Cell, NoMemory, Ref};
@@ -14,8 +17,8 @@ use tp_terms::{AtomId, Cell, NoMemory, Ref};
 ///
 /// The constants of `tp_terms::symbols` name their names in every such table, and no call changes a
 /// name that stood. A call only adds cells, so no place that stood shows another term, bindings
-/// aside. Only `unify` binds, and only where it answers true; then the log of acts gets an entry for
-/// each variable that is bound, and no other.
+/// aside. Only `unify` binds, and only where it answers true; then the log of acts gets an entry
+/// for each variable that is bound, and no other.
 ///
 /// Where a call answers `NoMemory`, nothing was bound, the next variable and the names are as
 /// before, and there may be further cells, which nothing shows.

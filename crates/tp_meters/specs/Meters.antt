@@ -1,5 +1,6 @@
 -- What a meter counts over the events of a history, in their order.
-use Rattle.std.specs.Prelude.{ℕ, ◌+◌, unsigned_abs, ◌-◌, ◌^◌, List, [], ◌∷◌, take, fold, min, max, nat_eq, nat_lt, if◌then◌else◌, int_lt, pos, ℤ}
+use Rattle.std.specs.Prelude.{ℕ, ◌+◌, unsigned_abs, ◌-◌, ◌^◌, List, [], ◌∷◌, take, fold, min, max}
+use Rattle.std.specs.Prelude.{nat_eq, nat_lt, if◌then◌else◌, int_lt, pos, ℤ}
 use Rattle.tp_meters.specs.declared.MeterKind.{MeterKind}
 use Rattle.tp_meters.specs.declared.MeterKind.TheVariants.{Events, Time, Mail, Procs}
 use Rattle.tp_meters.specs.declared.EventView.{EventView}

@@ -2,7 +2,8 @@
 #![tactic(auto)]
 
 ghost use Rattle.std.specs.Prelude.{◌≡◌, ℕ, List, [], ◌∷◌, length, slice_get, max};
-ghost use Rattle.tp_meters.specs.Meters.{zeros, meter_next, told, counted, natural, held, last_time};
+ghost use Rattle.tp_meters.specs.Meters.{zeros, meter_next, told, counted, natural, held};
+ghost use Rattle.tp_meters.specs.Meters.{last_time};
 ghost use Rattle.tp_meters.specs.declared.MeterKind.{MeterKind};
 ghost use Rattle.tp_meters.specs.declared.MeterKind.TheVariants.{Events, Time, Mail, Procs};
 

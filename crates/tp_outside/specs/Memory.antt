@@ -1,5 +1,6 @@
 -- A shelf and a sink in memory: what a call answers, and what it leaves.
-use Rattle.std.specs.Prelude.{ℕ, ◌-◌, Bool, ◌||◌, ◌==◌, nat_le, min, List, [], ◌++◌, length, map, take, Option, Some, None, Vec, string_bytes, if◌then◌else◌}
+use Rattle.std.specs.Prelude.{ℕ, ◌-◌, Bool, ◌||◌, ◌==◌, nat_le, min, List, [], ◌++◌, length, map}
+use Rattle.std.specs.Prelude.{take, Option, Some, None, Vec, string_bytes, if◌then◌else◌}
 use Rattle.std.specs.List.{list_any}
 use Rattle.std.specs.declared.alloc.Global.{Global}
 use Rattle.std.specs.declared.string.String.{String}

@@ -1,6 +1,7 @@
 //! A shelf and a sink in memory, which fail at chosen calls.
 
-ghost use Rattle.std.specs.Prelude.{◌≡◌, ◌-◌, ◌<◌, ◌≤◌, ◌++◌, IfOk, IsTrue, OnErr, OnOk, drop, length, min, take};
+ghost use Rattle.std.specs.Prelude.{◌≡◌, ◌-◌, ◌<◌, ◌≤◌, ◌++◌, IfOk, IsTrue, OnErr, OnOk, drop};
+ghost use Rattle.std.specs.Prelude.{length, min, take};
 ghost use Rattle.std.specs.Option.{option_copied};
 ghost use Rattle.std.specs.Result.{result_ok};
 ghost use Rattle.tp_outside.specs.Count.{Rose, given_more};

@@ -1,5 +1,6 @@
 -- What stands ahead in a list of tokens.
-use Rattle.std.specs.Prelude.{ℕ, Bool, true, false, not, ◌&&◌, List, [], ◌∷◌, Option, Some, None, codes, is_some, is_none}
+use Rattle.std.specs.Prelude.{ℕ, Bool, true, false, not, ◌&&◌, List, [], ◌∷◌, Option, Some, None}
+use Rattle.std.specs.Prelude.{codes, is_some, is_none}
 use Rattle.tp_terms.specs.Term.{Name, names_eq}
 use Rattle.tp_lex.specs.Tokens.{Lexed}
 use Rattle.tp_lex.specs.declared.token.TokenKind.{TokenKind}

@@ -1,8 +1,10 @@
 -- What the reader's functions answer, against the reading of lists of tokens.
-use Rattle.std.specs.Prelude.{◌≡◌, ℕ, Bool, true, false, ◌^◌, pos, nat_lt, if◌then◌else◌, ◌<◌, List, [], ◌∷◌, Option, Some, None, Result, Ok, Err}
+use Rattle.std.specs.Prelude.{◌≡◌, ℕ, Bool, true, false, ◌^◌, pos, nat_lt, if◌then◌else◌, ◌<◌, List}
+use Rattle.std.specs.Prelude.{[], ◌∷◌, Option, Some, None, Result, Ok, Err}
 use Rattle.tp_terms.specs.Term.{Name}
 use Rattle.tp_lex.specs.Tokens.{Lexed}
-use Rattle.tp_parse.specs.Tree.{Tree, Integer, Variable, Compound, Trees, none, first_of, unary, list_cell, integers}
+use Rattle.tp_parse.specs.Tree.{Tree, Integer, Variable, Compound, Trees, none, first_of, unary}
+use Rattle.tp_parse.specs.Tree.{list_cell, integers}
 use Rattle.tp_lex.specs.declared.token.TokenKind.{TokenKind}
 use Rattle.tp_lex.specs.declared.token.TokenKind.TheVariants as kind
 use Rattle.tp_parse.specs.declared.fault.ReadCause.TheVariants as cause

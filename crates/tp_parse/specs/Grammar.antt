@@ -1,11 +1,14 @@
 -- The grammar as a relation, with one case for each rule.
-use Rattle.std.specs.Prelude.{◌≡◌, ℕ, suc, ◌^◌, ◌<◌, ◌≤◌, pos, Bool, true, false, ◌&&◌, List, [], ◌∷◌, Some, None, codes}
+use Rattle.std.specs.Prelude.{◌≡◌, ℕ, suc, ◌^◌, ◌<◌, ◌≤◌, pos, Bool, true, false, ◌&&◌, List, []}
+use Rattle.std.specs.Prelude.{◌∷◌, Some, None, codes}
 use Rattle.tp_lex.specs.Tokens.{Lexed}
 use Rattle.tp_lex.specs.declared.token.TokenKind.{TokenKind}
 use Rattle.tp_lex.specs.declared.token.TokenKind.TheVariants as kind
-use Rattle.tp_parse.specs.Tree.{Tree, Variable, Integer, Atom, Compound, Trees, none, first_of, unary, binary, empty_list, list_cell, integers, minus}
+use Rattle.tp_parse.specs.Tree.{Tree, Variable, Integer, Atom, Compound, Trees, none, first_of}
+use Rattle.tp_parse.specs.Tree.{unary, binary, empty_list, list_cell, integers, minus}
 use Rattle.tp_parse.specs.Table.{Op, Table, left_bound, right_bound}
-use Rattle.tp_parse.specs.Ahead.{opens_directly, is_integer_directly, is_minus, infix_ahead, is_atom_before}
+use Rattle.tp_parse.specs.Ahead.{opens_directly, is_integer_directly, is_minus, infix_ahead}
+use Rattle.tp_parse.specs.Ahead.{is_atom_before}
 
 abbrev pub is_name : TokenKind → Bool
 is_name kind.Name = true

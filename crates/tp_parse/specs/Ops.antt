@@ -1,5 +1,6 @@
 -- Operators, as contracts see the table that is kept.
-use Rattle.std.specs.Prelude.{◌≡◌, ◌≤◌, ℕ, List, length, [], ◌∷◌, map, Option, None, Result, Ok, Err, if◌then◌else◌, chars, string_bytes}
+use Rattle.std.specs.Prelude.{◌≡◌, ◌≤◌, ℕ, List, length, [], ◌∷◌, map, Option, None, Result, Ok}
+use Rattle.std.specs.Prelude.{Err, if◌then◌else◌, chars, string_bytes}
 use Rattle.std.specs.declared.alloc.Global.{Global}
 use Rattle.std.specs.declared.string.String.{String}
 use Rattle.tp_terms.specs.Term.{Name, names_eq}

@@ -7,11 +7,13 @@ use Rattle.tp_lex.specs.Tokens.{Lexed}
 use Rattle.tp_parse.specs.Tree.{Tree, Trees}
 use Rattle.tp_parse.specs.Table.{Table}
 use Rattle.tp_parse.specs.Ops.{table_of}
-use Rattle.tp_parse.specs.Reading.{Read, Term, Inner, reading, args, elements, after_element, infix_part, infix_parts}
+use Rattle.tp_parse.specs.Reading.{Read, Term, Inner, reading, args, elements, after_element}
+use Rattle.tp_parse.specs.Reading.{infix_part, infix_parts}
 use Rattle.tp_parse.specs.Ahead.{first_kind, infix_ahead}
 use Rattle.tp_parse.specs.Words.{IsKnown, ahead, lexed_of}
 use Rattle.tp_parse.specs.Steps.{top_of, trees_of, under}
-use Rattle.tp_parse.specs.Gives.{IsGoing, GivesTerm, GivesRow, GivesArg, GivesElement, GivesList, GivesPart}
+use Rattle.tp_parse.specs.Gives.{IsGoing, GivesTerm, GivesRow, GivesArg, GivesElement, GivesList}
+use Rattle.tp_parse.specs.Gives.{GivesPart}
 use Rattle.tp_parse.specs.declared.words.Source.{Source}
 use Rattle.tp_parse.specs.declared.words.Word.{Word}
 use Rattle.tp_parse.specs.declared.progress.Progress.{Progress}

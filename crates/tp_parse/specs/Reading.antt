@@ -1,13 +1,17 @@
 -- Reading as a function on lists of tokens: a term, its priority and the tokens behind it; or the
 -- one stop, that is its cause and the tokens from it on.
-use Rattle.std.specs.Prelude.{ℕ, zero, suc, ◌^◌, pos, Bool, true, false, nat_lt, nat_le, ◌&&◌, if◌then◌else◌, List, [], ◌∷◌, length, Option, Some, None, Result, Ok, Err, codes}
+use Rattle.std.specs.Prelude.{ℕ, zero, suc, ◌^◌, pos, Bool, true, false, nat_lt, nat_le, ◌&&◌}
+use Rattle.std.specs.Prelude.{if◌then◌else◌, List, [], ◌∷◌, length, Option, Some, None, Result, Ok}
+use Rattle.std.specs.Prelude.{Err, codes}
 use Rattle.tp_terms.specs.Term.{Name}
 use Rattle.tp_lex.specs.Tokens.{Lexed, is_end}
 use Rattle.tp_lex.specs.declared.token.TokenKind.{TokenKind}
 use Rattle.tp_lex.specs.declared.token.TokenKind.TheVariants as kind
-use Rattle.tp_parse.specs.Tree.{Tree, Variable, Integer, Atom, Compound, Trees, none, first_of, unary, binary, empty_list, list_cell, integers, minus}
+use Rattle.tp_parse.specs.Tree.{Tree, Variable, Integer, Atom, Compound, Trees, none, first_of}
+use Rattle.tp_parse.specs.Tree.{unary, binary, empty_list, list_cell, integers, minus}
 use Rattle.tp_parse.specs.Table.{Op, Table, left_bound, right_bound}
-use Rattle.tp_parse.specs.Ahead.{first_kind, after_first, opens_directly, is_integer_directly, first_value, is_minus, infix_ahead, is_atom_before}
+use Rattle.tp_parse.specs.Ahead.{first_kind, after_first, opens_directly, is_integer_directly}
+use Rattle.tp_parse.specs.Ahead.{first_value, is_minus, infix_ahead, is_atom_before}
 use Rattle.tp_parse.specs.declared.fault.ReadCause.{ReadCause}
 use Rattle.tp_parse.specs.declared.fault.ReadCause.TheVariants as cause
 

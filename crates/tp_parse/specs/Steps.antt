@@ -1,13 +1,15 @@
 -- Trees by the steps that make them: a step takes the trees that were made last, and leaves one in
 -- their place.
-use Rattle.std.specs.Prelude.{◌≡◌, ℕ, zero, suc, ◌<◌, ◌≤◌, IsTrue, Bool, true, false, if◌then◌else◌, List, [], ◌∷◌, length, drop, Option, Some, None, codes, pos}
+use Rattle.std.specs.Prelude.{◌≡◌, ℕ, zero, suc, ◌<◌, ◌≤◌, IsTrue, Bool, true, false, if◌then◌else◌}
+use Rattle.std.specs.Prelude.{List, [], ◌∷◌, length, drop, Option, Some, None, codes, pos}
 use Rattle.tp_terms.specs.Term.{Name}
 use Rattle.tp_lex.specs.Form.{has_name}
 use Rattle.tp_lex.specs.Next.{IsTokenOf, token_name}
 use Rattle.tp_lex.specs.declared.token.Token.{Token}
 use Rattle.tp_lex.specs.declared.token.TokenKind.{TokenKind}
 use Rattle.tp_lex.specs.declared.token.TokenKind.TheVariants as kind
-use Rattle.tp_parse.specs.Tree.{Tree, Variable, Integer, Atom, Compound, Trees, none, first_of, list_cell}
+use Rattle.tp_parse.specs.Tree.{Tree, Variable, Integer, Atom, Compound, Trees, none, first_of}
+use Rattle.tp_parse.specs.Tree.{list_cell}
 use Rattle.tp_parse.specs.Table.{Op}
 use Rattle.tp_parse.specs.Reading.{is_taken}
 use Rattle.tp_parse.specs.Words.{first_word, after_word, atom_before}

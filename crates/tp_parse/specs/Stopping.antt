@@ -1,6 +1,7 @@
 -- Where and why nothing is read, with one case for each rule and cause: the cause, and the tokens
 -- from the stop on. The place of the stop is the number of tokens before those.
-use Rattle.std.specs.Prelude.{◌≡◌, ◌≢◌, ℕ, zero, suc, ◌^◌, ◌<◌, ◌≤◌, Bool, true, false, List, [], ◌∷◌, Some}
+use Rattle.std.specs.Prelude.{◌≡◌, ◌≢◌, ℕ, zero, suc, ◌^◌, ◌<◌, ◌≤◌, Bool, true, false, List, []}
+use Rattle.std.specs.Prelude.{◌∷◌, Some}
 use Rattle.tp_lex.specs.Tokens.{Lexed}
 use Rattle.tp_lex.specs.declared.token.TokenKind.{TokenKind}
 use Rattle.tp_lex.specs.declared.token.TokenKind.TheVariants as kind

@@ -1,6 +1,8 @@
 -- Tables of operators: each name has at most one entry as a prefix operator and at most one as an
 -- infix operator.
-use Rattle.std.specs.Prelude.{ℕ, ◌-◌, Bool, true, false, nat_eq, ◌||◌, List, [], ◌∷◌, fold, Option, Some, None, Result, Ok, Err, ℤ, pos, negsuc, int_lt, codes, if◌then◌else◌}
+use Rattle.std.specs.Prelude.{ℕ, ◌-◌, Bool, true, false, nat_eq, ◌||◌, List, [], ◌∷◌, fold, Option}
+use Rattle.std.specs.Prelude.{Some, None, Result, Ok, Err, ℤ, pos, negsuc, int_lt, codes}
+use Rattle.std.specs.Prelude.{if◌then◌else◌}
 use Rattle.tp_terms.specs.Term.{Name, names_eq}
 use Rattle.tp_parse.specs.declared.table.OpType.{OpType}
 use Rattle.tp_parse.specs.declared.table.OpType.TheVariants.{Xfx, Xfy, Yfx, Fy, Fx}

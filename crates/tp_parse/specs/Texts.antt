@@ -1,5 +1,6 @@
 -- The clause that stands in a text from a byte on, and the goal of a text; or the one refusal.
-use Rattle.std.specs.Prelude.{◌≡◌, ℕ, Bool, List, [], ◌∷◌, length, Option, Some, None, Result, Ok, Err, if◌then◌else◌}
+use Rattle.std.specs.Prelude.{◌≡◌, ℕ, Bool, List, [], ◌∷◌, length, Option, Some, None, Result, Ok}
+use Rattle.std.specs.Prelude.{Err, if◌then◌else◌}
 use Rattle.tp_terms.specs.Term.{Term}
 use Rattle.tp_lex.specs.Next.{next}
 use Rattle.tp_lex.specs.Tokens.{Lexed, is_end, tokens, goal_tokens}

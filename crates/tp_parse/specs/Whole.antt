@@ -1,11 +1,13 @@
 -- The reading of all words of a clause or a goal.
-use Rattle.std.specs.Prelude.{◌≡◌, ℕ, List, [], ◌∷◌, length, Bool, Option, Some, None, Result, Ok, Err}
+use Rattle.std.specs.Prelude.{◌≡◌, ℕ, List, [], ◌∷◌, length, Bool, Option, Some, None, Result, Ok}
+use Rattle.std.specs.Prelude.{Err}
 use Rattle.tp_terms.specs.Term.{Name}
 use Rattle.tp_lex.specs.Tokens.{Lexed}
 use Rattle.tp_parse.specs.Tree.{Tree}
 use Rattle.tp_parse.specs.Table.{Table}
 use Rattle.tp_parse.specs.Numbers.{no_numbers, numbered}
-use Rattle.tp_parse.specs.Reading.{Read, Stop as Stopped, clause_reading, goal_reading, ends_clause, ends_goal}
+use Rattle.tp_parse.specs.Reading.{Read, Stop as Stopped, clause_reading, goal_reading, ends_clause}
+use Rattle.tp_parse.specs.Reading.{ends_goal}
 use Rattle.tp_parse.specs.Texts.{Found, found_by, byte_at, last_byte, is_ended, refused}
 use Rattle.tp_parse.specs.Tells.{Tells}
 use Rattle.tp_parse.specs.Steps.{AreReady, trees_of}

@@ -1,5 +1,6 @@
 -- Tokens at hand: each with what the table of operators holds of its name.
-use Rattle.std.specs.Prelude.{◌≡◌, ℕ, Bool, true, false, not, ◌&&◌, List, [], ◌∷◌, map, Option, Some, None, Result, Ok, Err, codes, is_some, is_none, if◌then◌else◌}
+use Rattle.std.specs.Prelude.{◌≡◌, ℕ, Bool, true, false, not, ◌&&◌, List, [], ◌∷◌, map, Option}
+use Rattle.std.specs.Prelude.{Some, None, Result, Ok, Err, codes, is_some, is_none, if◌then◌else◌}
 use Rattle.tp_terms.specs.Term.{Name}
 use Rattle.tp_lex.specs.Next.{IsTokenOf, token_name, token_value}
 use Rattle.tp_lex.specs.Tokens.{Lexed, Reach, ToEnd, ToTextEnd, stops_at, with_token}

@@ -1,6 +1,7 @@
 //! The cells of a term, from the steps that make it.
 
-ghost use Rattle.std.specs.Prelude.{◌≡◌, ◌+◌, ◌<◌, ◌≤◌, ◌^◌, ℕ, List, [], ◌∷◌, ◌++◌, length, take, drop, slice_get, chars, codes, Some, IfOk, OnOk};
+ghost use Rattle.std.specs.Prelude.{◌≡◌, ◌+◌, ◌<◌, ◌≤◌, ◌^◌, ℕ, List, [], ◌∷◌, ◌++◌, length, take};
+ghost use Rattle.std.specs.Prelude.{drop, slice_get, chars, codes, Some, IfOk, OnOk};
 ghost use Rattle.tp_terms.specs.Names.{Grows, IsTable, with_name};
 ghost use Rattle.tp_terms.specs.Term.{Name};
 ghost use Rattle.tp_terms.specs.Shown.{AreNamed};
@@ -8,7 +9,8 @@ ghost use Rattle.tp_lex.specs.Next.{token_name};
 ghost use Rattle.tp_parse.specs.Making.{AllBefore, IsBuilt, IsGathered, IsMade};
 ghost use Rattle.tp_parse.specs.Numbers.{no_numbers};
 ghost use Rattle.tp_parse.specs.NewNames.{AddsOnly, writes_any};
-ghost use Rattle.tp_parse.specs.Steps.{AreReady, HasName, IsLabel, IsReady, act, label_name, linked, trees_of};
+ghost use Rattle.tp_parse.specs.Steps.{AreReady, HasName, IsLabel, IsReady, act, label_name};
+ghost use Rattle.tp_parse.specs.Steps.{linked, trees_of};
 ghost use Rattle.tp_parse.specs.Tree.{Tree};
 
 use crate::steps::{Label, Step};

@@ -4,7 +4,8 @@ ghost use Rattle.std.specs.Prelude.{◌≡◌, ◌<◌, ◌≤◌, ℕ, List, So
 ghost use Rattle.tp_parse.specs.Gives.{GivesBehind};
 ghost use Rattle.tp_parse.specs.Reading.{behind, closes_by};
 ghost use Rattle.tp_parse.specs.Steps.{infix_word, label_by, labelled};
-ghost use Rattle.tp_parse.specs.Words.{after_word, ahead, atom_before, atom_by, first_word, infix_alone, integer_by, kind_of, opens_by};
+ghost use Rattle.tp_parse.specs.Words.{after_word, ahead, atom_before, atom_by, first_word};
+ghost use Rattle.tp_parse.specs.Words.{infix_alone, integer_by, kind_of, opens_by};
 
 use crate::fault::ReadCause;
 use crate::steps::Label;

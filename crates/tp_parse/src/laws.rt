@@ -1,6 +1,7 @@
 //! Laws of the definitions: each function does nothing, and its clauses state a law.
 
-ghost use Rattle.tp_parse.specs.Laws.{EachClauseIsPlaced, EachHasOneOutcome, EachTermIsNumbered, ReadingFollowsGrammar};
+ghost use Rattle.tp_parse.specs.Laws.{EachClauseIsPlaced, EachHasOneOutcome, EachTermIsNumbered};
+ghost use Rattle.tp_parse.specs.Laws.{ReadingFollowsGrammar};
 
 /// Every list of tokens, read as a clause or as a goal, has either exactly one reading or exactly
 /// one stop, and not both (the grammar of terms of ISO/IEC 13211-1, clause 6.3, as docs/LANGUAGE.md

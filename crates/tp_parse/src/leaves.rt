@@ -1,6 +1,8 @@
 //! Parts of terms that have no terms in them, and the links of lists.
 
-ghost use Rattle.std.specs.Prelude.{◌≡◌, ◌+◌, ◌-◌, ◌<◌, ◌≤◌, ◌^◌, ◌∷◌, ◌++◌, nat_lt, ℕ, List, [], map, Err, Some, chars, string_bytes, length, IfOk, IfErr, IsTrue, OnOk, negsuc, pos};
+ghost use Rattle.std.specs.Prelude.{◌≡◌, ◌+◌, ◌-◌, ◌<◌, ◌≤◌, ◌^◌, ◌∷◌, ◌++◌, nat_lt, ℕ, List, []};
+ghost use Rattle.std.specs.Prelude.{map, Err, Some, chars, string_bytes, length, IfOk, IfErr};
+ghost use Rattle.std.specs.Prelude.{IsTrue, OnOk, negsuc, pos};
 ghost use Rattle.tp_lex.specs.Form.{has_name};
 ghost use Rattle.tp_lex.specs.Next.{IsTokenOf, token_name, token_value};
 ghost use Rattle.tp_parse.specs.Ahead.{is_minus};

@@ -1,12 +1,19 @@
 //! Terms, read from words into the steps that make them.
 
-ghost use Rattle.std.specs.Prelude.{◌≡◌, ◌+◌, ◌-◌, ◌<◌, ◌≤◌, ◌&&◌, nat_le, ℕ, suc, List, [], length, Some, IfErr, IfOk, IfSome, IsTrue, OnErr, OnOk};
+ghost use Rattle.std.specs.Prelude.{◌≡◌, ◌+◌, ◌-◌, ◌<◌, ◌≤◌, ◌&&◌, nat_le, ℕ, suc, List, []};
+ghost use Rattle.std.specs.Prelude.{length, Some, IfErr, IfOk, IfSome, IsTrue, OnErr, OnOk};
 ghost use Rattle.tp_lex.specs.Next.{IsTokenOf};
 ghost use Rattle.tp_parse.specs.Gives.{Fails, FollowsArg, compound, operand};
 ghost use Rattle.tp_parse.specs.Ahead.{after_first, first_kind, first_value, is_minus};
-ghost use Rattle.tp_parse.specs.Progress.{IsUnderway, IsWordOf, ReadsArgument, ReadsBehindElement, ReadsElement, ReadsList, ReadsPart, ReadsParts, ReadsRow, ReadsTerm, ahead_in, inner_of, made_in, name_in, ops_of, token_of};
-ghost use Rattle.tp_parse.specs.Reading.{Read, Term, after_arg, args, braced, bracketed, elements, is_taken, listed, named, prefixed, primary, tail, too_deep};
-ghost use Rattle.tp_parse.specs.Steps.{IsLabel, ends_list, infix_word, is_named, label_name, operator_of, taken_of};
+ghost use Rattle.tp_parse.specs.Progress.{IsUnderway, IsWordOf, ReadsArgument, ReadsBehindElement};
+ghost use Rattle.tp_parse.specs.Progress.{ReadsElement, ReadsList, ReadsPart, ReadsParts, ReadsRow};
+ghost use Rattle.tp_parse.specs.Progress.{ReadsTerm, ahead_in, inner_of, made_in, name_in, ops_of};
+ghost use Rattle.tp_parse.specs.Progress.{token_of};
+ghost use Rattle.tp_parse.specs.Reading.{Read, Term, after_arg, args, braced, bracketed, elements};
+ghost use Rattle.tp_parse.specs.Reading.{is_taken, listed, named, prefixed, primary, tail};
+ghost use Rattle.tp_parse.specs.Reading.{too_deep};
+ghost use Rattle.tp_parse.specs.Steps.{IsLabel, ends_list, infix_word, is_named, label_name};
+ghost use Rattle.tp_parse.specs.Steps.{operator_of, taken_of};
 ghost use Rattle.tp_parse.specs.Words.{after_word, ahead, first_word, integer_by, kind_of};
 ghost use Rattle.tp_parse.specs.Tree.{Atom, Integer, Tree, Trees, minus};
 ghost use Rattle.tp_lex.specs.Tokens.{Lexed};

@@ -1,8 +1,11 @@
 //! The table of operators.
 
-ghost use Rattle.std.specs.Prelude.{◌≡◌, ℕ, ◌≤◌, List, map, fold, drop, chars, codes, IsTrue, IfOk, OnErr, OnOk, if◌then◌else◌};
+ghost use Rattle.std.specs.Prelude.{◌≡◌, ℕ, ◌≤◌, List, map, fold, drop, chars, codes, IsTrue, IfOk};
+ghost use Rattle.std.specs.Prelude.{OnErr, OnOk, if◌then◌else◌};
 ghost use Rattle.tp_terms.specs.Term.{Name};
-ghost use Rattle.tp_parse.specs.Table.{add_op, changed, empty_table, entry_of, is_kept_name, is_prefix, left_bound, right_bound, start_table, type_of, with_op};
+ghost use Rattle.tp_parse.specs.Table.{add_op, changed, empty_table, entry_of, is_kept_name};
+ghost use Rattle.tp_parse.specs.Table.{is_prefix, left_bound, right_bound, start_table, type_of};
+ghost use Rattle.tp_parse.specs.Table.{with_op};
 ghost use Rattle.tp_parse.specs.Ops.{TellsAdd, entries_of, found_in, table_of};
 ghost use Rattle.tp_parse.specs.Start.{with_operators};
 

@@ -1,6 +1,7 @@
 //! The variables of a term, by their numbers.
 
-ghost use Rattle.std.specs.Prelude.{◌≡◌, ◌+◌, ◌<◌, ◌^◌, ℕ, [], ◌∷◌, ◌++◌, map, chars, codes, None, IfOk, OnOk};
+ghost use Rattle.std.specs.Prelude.{◌≡◌, ◌+◌, ◌<◌, ◌^◌, ℕ, [], ◌∷◌, ◌++◌, map, chars, codes, None};
+ghost use Rattle.std.specs.Prelude.{IfOk, OnOk};
 ghost use Rattle.tp_parse.specs.Numbers.{no_numbers, number_in, number_of};
 ghost use Rattle.tp_parse.specs.Tells.{named_of};
 ghost use Rattle.tp_parse.specs.Variables.{numbers_of};

@@ -9,7 +9,8 @@ ghost use Rattle.tp_parse.specs.Reading.{finished};
 ghost use Rattle.tp_parse.specs.Tells.{term_read};
 ghost use Rattle.tp_parse.specs.Texts.{byte_at};
 ghost use Rattle.tp_parse.specs.Tree.{Tree};
-ghost use Rattle.tp_parse.specs.Whole.{GivesEnd, GivesWhole, TellsSteps, TellsWhole, ended_of, ends_of, reading_of, to_of};
+ghost use Rattle.tp_parse.specs.Whole.{GivesEnd, GivesWhole, TellsSteps, TellsWhole, ended_of};
+ghost use Rattle.tp_parse.specs.Whole.{ends_of, reading_of, to_of};
 ghost use Rattle.tp_parse.specs.Words.{AreKnown, ahead};
 
 use crate::build::build;

@@ -1,6 +1,7 @@
 //! The tokens of a clause or a goal, with the operators of their names.
 
-ghost use Rattle.std.specs.Prelude.{◌≡◌, ℕ, ◌&&◌, chars, IfOk, IfSome, IsTrue, Option, Some, None, Err, OnOk, OnSome, [], ◌∷◌, ◌++◌, ◌<◌, length};
+ghost use Rattle.std.specs.Prelude.{◌≡◌, ℕ, ◌&&◌, chars, IfOk, IfSome, IsTrue, Option, Some, None};
+ghost use Rattle.std.specs.Prelude.{Err, OnOk, OnSome, [], ◌∷◌, ◌++◌, ◌<◌, length};
 ghost use Rattle.std.specs.Str.{IsCharBoundary};
 ghost use Rattle.tp_lex.specs.Form.{has_name};
 ghost use Rattle.tp_lex.specs.Next.{IsTokenOf, StandsBehind, token_name};
@@ -8,7 +9,8 @@ ghost use Rattle.tp_lex.specs.Tokens.{Reach, stands_directly, stops_at, tokens_f
 ghost use Rattle.tp_parse.specs.Progress.{IsWordOf, ops_of};
 ghost use Rattle.tp_parse.specs.Steps.{written};
 ghost use Rattle.tp_parse.specs.Texts.{HasToken};
-ghost use Rattle.tp_parse.specs.Words.{AreKnown, TellsNext, TellsWords, infix_by, prefix_by, reach_of};
+ghost use Rattle.tp_parse.specs.Words.{AreKnown, TellsNext, TellsWords, infix_by, prefix_by};
+ghost use Rattle.tp_parse.specs.Words.{reach_of};
 
 use crate::fault::ReadFault;
 use crate::steps::Label;

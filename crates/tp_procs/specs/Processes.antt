@@ -1,8 +1,10 @@
 -- What a scheduler asks of a list of processes.
-use Rattle.std.specs.Prelude.{◌≡◌, ℕ, Bool, true, false, nat_eq, int_lt, if◌then◌else◌, List, [], ◌∷◌, map, position, Option, Some, None, ℤ}
+use Rattle.std.specs.Prelude.{◌≡◌, ℕ, Bool, true, false, nat_eq, int_lt, if◌then◌else◌, List, []}
+use Rattle.std.specs.Prelude.{◌∷◌, map, position, Option, Some, None, ℤ}
 use Rattle.std.specs.List.{AllByRecursion}
 use Rattle.tp_terms.specs.declared.Limit.TheVariants.{At, Inf}
-use Rattle.tp_terms.specs.declared.ProcStatus.TheVariants.{Scheduled, Running, AwaitsMail, Ended, Parked}
+use Rattle.tp_terms.specs.declared.ProcStatus.TheVariants.{Scheduled, Running, AwaitsMail, Ended}
+use Rattle.tp_terms.specs.declared.ProcStatus.TheVariants.{Parked}
 use Rattle.tp_terms.specs.declared.cells.AtomId.{AtomId}
 use Rattle.tp_terms.specs.declared.world.Proc.{Proc}
 

@@ -1,6 +1,7 @@
 -- A tree over the places of a list. Below the place n are the places 2 n + 1 and 2 n + 2. A node
 -- has the best of its own process and of all below it, so that the first node has the best of all.
-use Rattle.std.specs.Prelude.{◌≡◌, ◌≢◌, ℕ, ◌+◌, ◌*◌, nat_lt, if◌then◌else◌, List, length, Option, Some, None, slice_get, slice_index_or, count_by}
+use Rattle.std.specs.Prelude.{◌≡◌, ◌≢◌, ℕ, ◌+◌, ◌*◌, nat_lt, if◌then◌else◌, List, length, Option}
+use Rattle.std.specs.Prelude.{Some, None, slice_get, slice_index_or, count_by}
 use Rattle.tp_terms.specs.declared.world.Proc.{Proc}
 use Rattle.tp_procs.specs.declared.tree.Node.{Node}
 use Rattle.tp_procs.specs.Processes.{is_live, is_marked, end_of, sooner, names_of, AreDistinct}

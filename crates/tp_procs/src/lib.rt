@@ -1,9 +1,12 @@
 //! The list of processes, with all that a scheduler asks of it at hand.
 #![tactic(auto)]
 
-ghost use Rattle.std.specs.Prelude.{◌≡◌, ℕ, ◌+◌, ◌-◌, ◌<◌, true, false, List, [], ◌∷◌, ◌++◌, length, count_by, position, Some, None, OnOk, OnErr, IfOk, IfSome, slice_get, slice_set};
+ghost use Rattle.std.specs.Prelude.{◌≡◌, ℕ, ◌+◌, ◌-◌, ◌<◌, true, false, List, [], ◌∷◌, ◌++◌};
+ghost use Rattle.std.specs.Prelude.{length, count_by, position, Some, None, OnOk, OnErr, IfOk};
+ghost use Rattle.std.specs.Prelude.{IfSome, slice_get, slice_set};
 ghost use Rattle.tp_log.specs.Front.{front};
-ghost use Rattle.tp_procs.specs.Processes.{is_live, is_marked, earliest, named, names_of, AreDistinct};
+ghost use Rattle.tp_procs.specs.Processes.{is_live, is_marked, earliest, named, names_of};
+ghost use Rattle.tp_procs.specs.Processes.{AreDistinct};
 
 mod tree;
 

@@ -1,8 +1,10 @@
 //! A tree over the places of a list, for the best of all at hand.
 
-ghost use Rattle.std.specs.Prelude.{◌≡◌, ℕ, ◌+◌, ◌*◌, ◌^◌, ◌<◌, if◌then◌else◌, length, slice_get, Some};
+ghost use Rattle.std.specs.Prelude.{◌≡◌, ℕ, ◌+◌, ◌*◌, ◌^◌, ◌<◌, if◌then◌else◌, length, slice_get};
+ghost use Rattle.std.specs.Prelude.{Some};
 ghost use Rattle.tp_procs.specs.Processes.{is_live, is_marked, end_of, sooner};
-ghost use Rattle.tp_procs.specs.Tree.{lower, nothing, joined, own_of, node_at, whole_of, IsTree, IsTreeBut};
+ghost use Rattle.tp_procs.specs.Tree.{lower, nothing, joined, own_of, node_at, whole_of, IsTree};
+ghost use Rattle.tp_procs.specs.Tree.{IsTreeBut};
 
 use tp_terms::{Limit, Proc, ProcStatus};
 

@@ -5,7 +5,8 @@ use Rattle.tp_terms.specs.declared.world.Event.{Event}
 use Rattle.tp_terms.specs.declared.world.EventKind.{EventKind}
 use Rattle.tp_write.specs.Text.{text}
 use Rattle.tp_report.specs.Report.{variable_line, kind_text, event_line, answer_lines}
-use Rattle.tp_report.specs.Seen.{Seen, term_seen, value_seen, variable_seen, processes_seen, kind_by, event_by, answer_seen}
+use Rattle.tp_report.specs.Seen.{Seen, term_seen, value_seen, variable_seen, processes_seen}
+use Rattle.tp_report.specs.Seen.{kind_by, event_by, answer_seen}
 
 -- the text of a place's term, where the largest priority is `max`
 abbrev pub term_text : Seen → ℕ → ℕ → List ℕ

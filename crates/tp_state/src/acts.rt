@@ -1,7 +1,8 @@
 //! Acts on a state. Where an act changes bindings, processes, the calendar or boxes, it adds to the
 //! log what takes it back.
 
-ghost use Rattle.std.specs.Prelude.{◌≡◌, ◌≢◌, ◌<◌, length, slice_get, slice_set, true, Some, Ok, IfSome, IfOk, OnOk, List, ◌∷◌};
+ghost use Rattle.std.specs.Prelude.{◌≡◌, ◌≢◌, ◌<◌, length, slice_get, slice_set, true, Some, Ok};
+ghost use Rattle.std.specs.Prelude.{IfSome, IfOk, OnOk, List, ◌∷◌};
 ghost use Rattle.tp_terms.specs.declared.world.Proc.{Proc};
 ghost use Rattle.tp_terms.specs.declared.world.Slot.{Slot};
 ghost use Rattle.tp_state.specs.Acts.{is_unmarked, mark, mark_others};
@@ -37,7 +38,8 @@ fn is_unmarked(proc: &Proc) -> bool
 impl State {
     ghost use Rattle.tp_store.specs.Contents.{FindsUnifier, IsStore};
     ghost use Rattle.tp_store.specs.Logged.{Logs};
-    ghost use Rattle.tp_state.specs.Acts.{pushed, resting, bodied, noted, ran, left, begun, opened, changed, with_store};
+    ghost use Rattle.tp_state.specs.Acts.{pushed, resting, bodied, noted, ran, left, begun, opened};
+    ghost use Rattle.tp_state.specs.Acts.{changed, with_store};
     ghost use Rattle.tp_state.specs.Going.{Follows};
 
     // ---- the running process

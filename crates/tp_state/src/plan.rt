@@ -36,7 +36,8 @@ impl State {
     ghost use Rattle.tp_calendar.specs.Order.{IsFree};
     ghost use Rattle.tp_mail.specs.Mail.{box_of};
     ghost use Rattle.tp_procs.specs.Processes.{named};
-    ghost use Rattle.tp_state.specs.Acts.{added, delivered, made, planned, posted, roused, slot_at, taken_out};
+    ghost use Rattle.tp_state.specs.Acts.{added, delivered, made, planned, posted, roused, slot_at};
+    ghost use Rattle.tp_state.specs.Acts.{taken_out};
     ghost use Rattle.tp_state.specs.Going.{Follows};
 
     /// A process goes on at a time: the calendar has an entry more, of the next insertion number.

@@ -1,5 +1,6 @@
 -- Chained bindings, as the code keeps them.
-use Rattle.std.specs.Prelude.{◌≡◌, ◌⊎◌, ℕ, ◌+◌, ◌^◌, ◌<◌, List, [], ◌∷◌, Option, Some, None, length, reverse, slice_get, slice_index_or}
+use Rattle.std.specs.Prelude.{◌≡◌, ◌⊎◌, ℕ, ◌+◌, ◌^◌, ◌<◌, List, [], ◌∷◌, Option, Some, None, length}
+use Rattle.std.specs.Prelude.{reverse, slice_get, slice_index_or}
 use Rattle.tp_terms.specs.declared.cells.Cell.{Cell}
 use Rattle.tp_terms.specs.declared.cells.Cell.TheVariants as cell
 use Rattle.tp_terms.specs.declared.cells.Ref.{Ref}
@@ -9,7 +10,8 @@ use Rattle.tp_terms.specs.Shown.{StandsBefore}
 use Rattle.tp_terms.specs.Binds.{Bindings, bound_in}
 use Rattle.tp_store.specs.declared.chains.Chains.{Chains}
 use Rattle.tp_store.specs.declared.chains.End.{End}
-use Rattle.tp_store.specs.Contents.{Contents, IsConstant, IsStore, IsUnbound, IsNumbered, seen, seen_cell}
+use Rattle.tp_store.specs.Contents.{Contents, IsConstant, IsStore, IsUnbound, IsNumbered, seen}
+use Rattle.tp_store.specs.Contents.{seen_cell}
 
 -- what the bindings and cells hold; the list in memory has the newest binding last
 abbrev pub contents_of : Chains → Contents

@@ -1,9 +1,11 @@
 -- Copies of terms: what is left to do, and what that makes.
-use Rattle.std.specs.Prelude.{◌≡◌, ℕ, zero, suc, ◌+◌, ◌<◌, ◌≤◌, true, List, [], ◌∷◌, ◌++◌, length, take, drop}
+use Rattle.std.specs.Prelude.{◌≡◌, ℕ, zero, suc, ◌+◌, ◌<◌, ◌≤◌, true, List, [], ◌∷◌, ◌++◌, length}
+use Rattle.std.specs.Prelude.{take, drop}
 use Rattle.tp_terms.specs.declared.cells.Cell.{Cell}
 use Rattle.tp_terms.specs.declared.cells.Cell.TheVariants as cell
 use Rattle.tp_terms.specs.declared.cells.Ref.{Ref}
-use Rattle.tp_terms.specs.Term.{Name, Term, Terms, Var, Int, Atom, Comp, NoMore, More, occurs, term_size, terms_of}
+use Rattle.tp_terms.specs.Term.{Name, Term, Terms, Var, Int, Atom, Comp, NoMore, More, occurs}
+use Rattle.tp_terms.specs.Term.{term_size, terms_of}
 use Rattle.tp_terms.specs.Shown.{name_at, shows, AreNamed, IsNamed, StandsBefore}
 use Rattle.tp_meaning.specs.Clauses.{renamed}
 use Rattle.tp_meaning.specs.Valid.{Below}

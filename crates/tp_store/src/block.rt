@@ -1,8 +1,10 @@
 //! Copies of terms whose cells stand together: walks over the cells, and no list of tasks.
 
-ghost use Rattle.std.specs.Prelude.{◌≡◌, ℕ, ◌+◌, ◌-◌, ◌<◌, ◌≤◌, ◌^◌, false, length, OnOk, OnErr, IfOk};
+ghost use Rattle.std.specs.Prelude.{◌≡◌, ℕ, ◌+◌, ◌-◌, ◌<◌, ◌≤◌, ◌^◌, false, length, OnOk, OnErr};
+ghost use Rattle.std.specs.Prelude.{IfOk};
 ghost use Rattle.tp_terms.specs.Shown.{StandsBefore};
-ghost use Rattle.tp_store.specs.Block.{AreMoved, BeginsIn, HasNoVariable, IsBlock, IsWhole, moved_by};
+ghost use Rattle.tp_store.specs.Block.{AreMoved, BeginsIn, HasNoVariable, IsBlock, IsWhole};
+ghost use Rattle.tp_store.specs.Block.{moved_by};
 ghost use Rattle.tp_store.specs.Contents.{AddsCells, with_cell};
 ghost use Rattle.tp_store.specs.Chain.{IsChains, contents_of};
 ghost use Rattle.tp_store.specs.Copy.{IsClaimed, NamesBoth, ShowsCopy};

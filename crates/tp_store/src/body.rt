@@ -1,6 +1,7 @@
 //! Bodies of goals: a list of jobs in place of recursion.
 
-ghost use Rattle.std.specs.Prelude.{◌≡◌, ℕ, ◌+◌, ◌<◌, ◌≤◌, ◌^◌, List, ◌∷◌, length, reverse, Ok, IfOk, IfSome, IfNone, OnOk, OnErr, option_map};
+ghost use Rattle.std.specs.Prelude.{◌≡◌, ℕ, ◌+◌, ◌<◌, ◌≤◌, ◌^◌, List, ◌∷◌, length, reverse, Ok};
+ghost use Rattle.std.specs.Prelude.{IfOk, IfSome, IfNone, OnOk, OnErr, option_map};
 ghost use Rattle.tp_terms.specs.Names.{IsTable};
 ghost use Rattle.tp_terms.specs.Term.{Name, Comp, More, NoMore};
 ghost use Rattle.tp_terms.specs.Shown.{AreNamed, name_at};
@@ -8,7 +9,9 @@ ghost use Rattle.tp_meaning.specs.Body.{body};
 ghost use Rattle.tp_store.specs.Contents.{AddsCells, seen};
 ghost use Rattle.tp_store.specs.Chain.{IsChains, contents_of};
 ghost use Rattle.tp_store.specs.Work.{AreIn};
-ghost use Rattle.tp_store.specs.Bodies.{AreJobs, AsksMemory, FindsBody, Goes, IsPair, IsWithin, KeepsNames, KeepsOwn, Looked, ShowsCall, ShowsPair, compound_form, form_of, joins, pair_of};
+ghost use Rattle.tp_store.specs.Bodies.{AreJobs, AsksMemory, FindsBody, Goes, IsPair, IsWithin};
+ghost use Rattle.tp_store.specs.Bodies.{KeepsNames, KeepsOwn, Looked, ShowsCall, ShowsPair};
+ghost use Rattle.tp_store.specs.Bodies.{compound_form, form_of, joins, pair_of};
 
 use crate::chains::Chains;
 use std::alloc::Global;

@@ -1,9 +1,12 @@
 //! Terms and chained bindings, whose facts callers keep: `Store` hides them.
 
-ghost use Rattle.std.specs.Prelude.{◌≡◌, ◌+◌, ◌^◌, ◌<◌, ◌≤◌, List, [], ◌∷◌, length, take, reverse, slice_set, Some, IsOk, OnOk, OnErr, IfOk, IfSome, IfNone};
+ghost use Rattle.std.specs.Prelude.{◌≡◌, ◌+◌, ◌^◌, ◌<◌, ◌≤◌, List, [], ◌∷◌, length, take, reverse};
+ghost use Rattle.std.specs.Prelude.{slice_set, Some, IsOk, OnOk, OnErr, IfOk, IfSome, IfNone};
 ghost use Rattle.tp_terms.specs.Term.{Name};
 ghost use Rattle.tp_terms.specs.Shown.{StandsBefore, shown_from, shows};
-ghost use Rattle.tp_store.specs.Contents.{Contents, IsStore, Adds, CanGoBack, IsNumbered, IsUnbound, cut_to_mark, with_cell, with_vars, with_pair, seen, seen_cell};
+ghost use Rattle.tp_store.specs.Contents.{Contents, IsStore, Adds, CanGoBack, IsNumbered};
+ghost use Rattle.tp_store.specs.Contents.{IsUnbound, cut_to_mark, with_cell, with_vars, with_pair};
+ghost use Rattle.tp_store.specs.Contents.{seen, seen_cell};
 ghost use Rattle.tp_store.specs.Chain.{IsChains, IsClosed, IsEnd, LeadsOn, MayEndAt, contents_of};
 ghost use Rattle.tp_store.specs.Logged.{IsBound, unbound, without_pair};
 ghost use Rattle.tp_store.specs.Trail.{number_at};

@@ -1,12 +1,14 @@
 //! Copies of terms: a list of tasks in place of recursion.
 
-ghost use Rattle.std.specs.Prelude.{◌≡◌, ℕ, ◌+◌, ◌<◌, ◌≤◌, ◌^◌, List, [], ◌∷◌, ◌++◌, length, take, drop, reverse, OnOk, OnErr, IfOk};
+ghost use Rattle.std.specs.Prelude.{◌≡◌, ℕ, ◌+◌, ◌<◌, ◌≤◌, ◌^◌, List, [], ◌∷◌, ◌++◌, length, take};
+ghost use Rattle.std.specs.Prelude.{drop, reverse, OnOk, OnErr, IfOk};
 ghost use Rattle.tp_terms.specs.Term.{Name};
 ghost use Rattle.tp_terms.specs.Shown.{AreNamed, shows};
 ghost use Rattle.tp_meaning.specs.Clauses.{renamed};
 ghost use Rattle.tp_store.specs.Contents.{AddsCells};
 ghost use Rattle.tp_store.specs.Chain.{IsChains, contents_of};
-ghost use Rattle.tp_store.specs.Copy.{AreReady, IsClaimed, IsLast, NamesBoth, ShowsCopy, copies, looked_at, numbered_on};
+ghost use Rattle.tp_store.specs.Copy.{AreReady, IsClaimed, IsLast, NamesBoth, ShowsCopy, copies};
+ghost use Rattle.tp_store.specs.Copy.{looked_at, numbered_on};
 
 use crate::chains::Chains;
 use crate::spare::Copying;

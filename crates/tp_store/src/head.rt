@@ -1,6 +1,7 @@
 //! Unification with a term of other cells, with a log: each binding has its entry.
 
-ghost use Rattle.std.specs.Prelude.{◌≡◌, ◌≢◌, ◌<◌, ◌≤◌, length, take, reverse, true, Ok, OnOk, IfOk};
+ghost use Rattle.std.specs.Prelude.{◌≡◌, ◌≢◌, ◌<◌, ◌≤◌, length, take, reverse, true, Ok, OnOk};
+ghost use Rattle.std.specs.Prelude.{IfOk};
 ghost use Rattle.tp_store.specs.Contents.{CanGoBack, cut_to_mark};
 ghost use Rattle.tp_store.specs.Chain.{IsChains, contents_of};
 ghost use Rattle.tp_store.specs.Copy.{IsClaimed, NamesBoth};

@@ -3,7 +3,8 @@
 ghost use Rattle.std.specs.Prelude.{◌≡◌, ◌+◌, ◌<◌, ◌≤◌, ◌^◌, length, IfOk, OnOk, OnErr};
 ghost use Rattle.tp_store.specs.Contents.{AddsCells};
 ghost use Rattle.tp_store.specs.Chain.{IsChains, contents_of};
-ghost use Rattle.tp_store.specs.Joined.{AddsRow, AreParts, HasRoom, IsCallable, IsGoal, KeepsAtoms, ShowsMore};
+ghost use Rattle.tp_store.specs.Joined.{AddsRow, AreParts, HasRoom, IsCallable, IsGoal, KeepsAtoms};
+ghost use Rattle.tp_store.specs.Joined.{ShowsMore};
 
 use crate::chains::{Chains, End};
 use tp_terms::{AtomId, Cell, NoMemory, Ref};

@@ -1,7 +1,8 @@
 //! Unification of a place with a term of other cells, which is seen where it stands: of its
 //! compounds only those are copied that a variable is bound to.
 
-ghost use Rattle.std.specs.Prelude.{◌≡◌, ℕ, ◌+◌, ◌-◌, ◌^◌, ◌<◌, true, false, List, [], ◌∷◌, length, reverse, Ok, Some, None, OnOk, OnErr, IfOk};
+ghost use Rattle.std.specs.Prelude.{◌≡◌, ℕ, ◌+◌, ◌-◌, ◌^◌, ◌<◌, true, false, List, [], ◌∷◌, length};
+ghost use Rattle.std.specs.Prelude.{reverse, Ok, Some, None, OnOk, OnErr, IfOk};
 ghost use Rattle.tp_terms.specs.Term.{Name, Var};
 ghost use Rattle.tp_terms.specs.Shown.{StandsBefore, shows};
 ghost use Rattle.tp_terms.specs.Binds.{bound_in};

@@ -5,7 +5,8 @@ ghost use Rattle.tp_terms.specs.Shown.{AreNamed, IsNamed, StandsBefore, name_at}
 ghost use Rattle.tp_meaning.specs.Order.{name_cmp};
 ghost use Rattle.tp_store.specs.Contents.{Contents, IsStore};
 ghost use Rattle.tp_store.specs.Chain.{IsChains, IsEnd, contents_of};
-ghost use Rattle.tp_store.specs.Ordered.{IsOrder, Ranks, cells_cmp, compound_in, heads_cmp, kind_of};
+ghost use Rattle.tp_store.specs.Ordered.{IsOrder, Ranks, cells_cmp, compound_in, heads_cmp};
+ghost use Rattle.tp_store.specs.Ordered.{kind_of};
 
 use crate::chains::{Chains, End};
 use crate::join::Parts;

@@ -1,11 +1,13 @@
 //! Lists of places that are still to be looked at: a list in place of recursion.
 
-ghost use Rattle.std.specs.Prelude.{◌≡◌, ℕ, ◌+◌, ◌^◌, ◌<◌, true, false, List, [], ◌∷◌, ◌++◌, length, reverse, OnOk, IfOk};
+ghost use Rattle.std.specs.Prelude.{◌≡◌, ℕ, ◌+◌, ◌^◌, ◌<◌, true, false, List, [], ◌∷◌, ◌++◌};
+ghost use Rattle.std.specs.Prelude.{length, reverse, OnOk, IfOk};
 ghost use Rattle.tp_terms.specs.Term.{Name, occurs};
 ghost use Rattle.tp_terms.specs.Shown.{StandsBefore};
 ghost use Rattle.tp_store.specs.Contents.{Contents, IsStore, seen};
 ghost use Rattle.tp_store.specs.Chain.{IsChains, IsEnd, contents_of};
-ghost use Rattle.tp_store.specs.Work.{places_from, pairs_from, VisitStep, CellStep, WorkStep, ArePairsIn, IsConstant, constants_eq};
+ghost use Rattle.tp_store.specs.Work.{places_from, pairs_from, VisitStep, CellStep, WorkStep};
+ghost use Rattle.tp_store.specs.Work.{ArePairsIn, IsConstant, constants_eq};
 
 use crate::chains::{Chains, End};
 use tp_terms::{AtomId, Cell, NoMemory, Ref};
@@ -77,8 +79,8 @@ fn visit(number: u64, end: End, work: &mut Vec<Ref>) -> Result<bool, NoMemory>
     }
 }
 
-/// Whether the closed mark, or the end of a place's chain alone, shows that a variable doesn't occur
-/// in the place's term.
+/// Whether the closed mark, or the end of a place's chain alone, shows that a variable doesn't
+/// occur in the place's term.
 fn is_apart(chains: &Chains, number: u64, place: Ref) -> bool
     requires chains { IsChains chains.now }
     requires place { place.at < length chains.now.cells.items }

@@ -1,6 +1,7 @@
 //! Copies of terms with new variables: first the variables in order, and then the copy.
 
-ghost use Rattle.std.specs.Prelude.{◌≡◌, ℕ, ◌+◌, ◌<◌, ◌≤◌, ◌^◌, ◌++◌, List, [], length, reverse, IfOk, OnOk, OnErr};
+ghost use Rattle.std.specs.Prelude.{◌≡◌, ℕ, ◌+◌, ◌<◌, ◌≤◌, ◌^◌, ◌++◌, List, [], length, reverse};
+ghost use Rattle.std.specs.Prelude.{IfOk, OnOk, OnErr};
 ghost use Rattle.tp_terms.specs.Shown.{StandsBefore};
 ghost use Rattle.tp_terms.specs.Term.{Name};
 ghost use Rattle.tp_meaning.specs.Copy.{place_in, variables_after};
@@ -8,7 +9,8 @@ ghost use Rattle.tp_meaning.specs.Valid.{Below};
 ghost use Rattle.tp_store.specs.Contents.{AddsCells, Contents, IsStore, seen};
 ghost use Rattle.tp_store.specs.Chain.{IsChains, IsEnd, contents_of};
 ghost use Rattle.tp_store.specs.Joined.{KeepsAtoms};
-ghost use Rattle.tp_store.specs.Renamed.{AddsTerms, Collects, Copies, ShowsRenamed, renamed_by, renaming};
+ghost use Rattle.tp_store.specs.Renamed.{AddsTerms, Collects, Copies, ShowsRenamed, renamed_by};
+ghost use Rattle.tp_store.specs.Renamed.{renaming};
 ghost use Rattle.tp_store.specs.Work.{places_from};
 
 use crate::chains::{Chains, End};

@@ -1,6 +1,7 @@
 //! Unification on chained bindings.
 
-ghost use Rattle.std.specs.Prelude.{◌≡◌, ◌≢◌, ◌<◌, List, length, true, false, Ok, Some, None, is_some, IfOk, if◌then◌else◌};
+ghost use Rattle.std.specs.Prelude.{◌≡◌, ◌≢◌, ◌<◌, List, length, true, false, Ok, Some, None};
+ghost use Rattle.std.specs.Prelude.{is_some, IfOk, if◌then◌else◌};
 ghost use Rattle.tp_terms.specs.Term.{Name};
 ghost use Rattle.tp_terms.specs.Shown.{shows};
 ghost use Rattle.tp_meaning.specs.Subst.{mgu};

@@ -1,6 +1,8 @@
 //! The store.
 
-ghost use Rattle.std.specs.Prelude.{◌≡◌, ◌≢◌, ℕ, ◌+◌, ◌<◌, ◌≤◌, List, [], length, true, Ok, Some, None, is_some, option_map, OnOk, OnErr, IfOk, IfSome, IfNone, if◌then◌else◌};
+ghost use Rattle.std.specs.Prelude.{◌≡◌, ◌≢◌, ℕ, ◌+◌, ◌<◌, ◌≤◌, List, [], length, true, Ok, Some};
+ghost use Rattle.std.specs.Prelude.{None, is_some, option_map, OnOk, OnErr, IfOk, IfSome, IfNone};
+ghost use Rattle.std.specs.Prelude.{if◌then◌else◌};
 ghost use Rattle.tp_terms.specs.Term.{Name};
 ghost use Rattle.tp_terms.specs.Names.{IsTable};
 ghost use Rattle.tp_terms.specs.Shown.{AreNamed, IsNamed, StandsBefore, shows};
@@ -8,9 +10,12 @@ ghost use Rattle.tp_terms.specs.Binds.{Fits};
 ghost use Rattle.tp_meaning.specs.Body.{body};
 ghost use Rattle.tp_meaning.specs.Clauses.{renamed};
 ghost use Rattle.tp_meaning.specs.Subst.{mgu};
-ghost use Rattle.tp_store.specs.Contents.{AddsCells, IsStore, Names, IsNumbered, IsUnbound, CanGoBack, FindsUnifier, IsUnifiable, Keeps, cut_to_mark, with_cell, with_vars, seen, seen_cell, subst_of};
+ghost use Rattle.tp_store.specs.Contents.{AddsCells, IsStore, Names, IsNumbered, IsUnbound};
+ghost use Rattle.tp_store.specs.Contents.{CanGoBack, FindsUnifier, IsUnifiable, Keeps, cut_to_mark};
+ghost use Rattle.tp_store.specs.Contents.{with_cell, with_vars, seen, seen_cell, subst_of};
 ghost use Rattle.tp_store.specs.Copy.{IsClaimed, IsLast, NamesBoth, ShowsCopy};
-ghost use Rattle.tp_store.specs.Logged.{FindsHead, HeadIsUnifiable, IsBound, KeepsTerms, Logs, LogsHead, unbound};
+ghost use Rattle.tp_store.specs.Logged.{FindsHead, HeadIsUnifiable, IsBound, KeepsTerms, Logs};
+ghost use Rattle.tp_store.specs.Logged.{LogsHead, unbound};
 ghost use Rattle.tp_store.specs.Joined.{HasRoom, IsCallable, KeepsAtoms, ShowsMore};
 ghost use Rattle.tp_store.specs.Ordered.{IsOrder};
 ghost use Rattle.tp_store.specs.Renamed.{AddsTerms, Copies};
@@ -126,10 +131,10 @@ impl Store {
         instance(&mut self.chains, alloc, from, root, base)
     }
 
-    /// A place for the term of `root` in `from`, as `instance` makes it. All cells from the lowest of
-    /// the term to its last are copied in one walk, so it is fast for a term whose cells stand
-    /// together, and adds cells that the term doesn't have where they don't. The condition `claimed`
-    /// is that the numbers of the variables were claimed.
+    /// A place for the term of `root` in `from`, as `instance` makes it. All cells from the lowest
+    /// of the term to its last are copied in one walk, so it is fast for a term whose cells stand
+    /// together, and adds cells that the term doesn't have where they don't. The condition
+    /// `claimed` is that the numbers of the variables were claimed.
     ///
     /// Answers `NoMemory` where the memory for it isn't had, and then the store is as before.
     pub fn block(&mut self, from: &Cells, root: Ref, base: u64) -> Result<Ref, NoMemory>

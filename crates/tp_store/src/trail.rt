@@ -1,6 +1,7 @@
 //! What variables are bound to, in few words of memory.
 
-ghost use Rattle.std.specs.Prelude.{◌≡◌, ◌+◌, ◌-◌, ◌^◌, ◌<◌, ◌≤◌, ℕ, [], ◌∷◌, ◌++◌, length, take, replicate, slice_index_or, slice_set, Some, None, OnOk, OnErr};
+ghost use Rattle.std.specs.Prelude.{◌≡◌, ◌+◌, ◌-◌, ◌^◌, ◌<◌, ◌≤◌, ℕ, [], ◌∷◌, ◌++◌, length, take};
+ghost use Rattle.std.specs.Prelude.{replicate, slice_index_or, slice_set, Some, None, OnOk, OnErr};
 ghost use Rattle.std.specs.List.{remove};
 ghost use Rattle.tp_store.specs.Trail.{number_at};
 

@@ -1,8 +1,10 @@
 //! The table of names.
 
-ghost use Rattle.std.specs.Prelude.{◌≡◌, ℕ, ◌<◌, length, slice_get, map, chars, encode_utf8_all, IsOk, IsOkAnd, IfOk, OnOk, OnErr};
+ghost use Rattle.std.specs.Prelude.{◌≡◌, ℕ, ◌<◌, length, slice_get, map, chars, encode_utf8_all};
+ghost use Rattle.std.specs.Prelude.{IsOk, IsOkAnd, IfOk, OnOk, OnErr};
 ghost use Rattle.tp_terms.specs.Shown.{name_at};
-ghost use Rattle.tp_terms.specs.Names.{names_of, with_name, with_names, HasFew, IsTable, StandsAt, Grows};
+ghost use Rattle.tp_terms.specs.Names.{names_of, with_name, with_names, HasFew, IsTable, StandsAt};
+ghost use Rattle.tp_terms.specs.Names.{Grows};
 ghost use Rattle.tp_terms.specs.StartNames.{start_names};
 
 use crate::NoMemory;

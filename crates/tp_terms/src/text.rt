@@ -1,6 +1,7 @@
 //! Texts and named variables, as contracts can compare them with a definition's value.
 
-ghost use Rattle.std.specs.Prelude.{◌≡◌, ◌++◌, [], ◌∷◌, chars, encode_utf8_all, string_bytes, OnErr};
+ghost use Rattle.std.specs.Prelude.{◌≡◌, ◌++◌, [], ◌∷◌, chars, encode_utf8_all, string_bytes};
+ghost use Rattle.std.specs.Prelude.{OnErr};
 ghost use Rattle.tp_terms.specs.Added.{Adds};
 
 use crate::NoMemory;

@@ -1,11 +1,15 @@
 -- The law that what is written reads back.
-use Rattle.std.specs.Prelude.{◌≡◌, ◌≢◌, ℕ, ◌+◌, ◌^◌, ◌<◌, ◌≤◌, Bool, true, false, nat_eq, nat_lt, max, List, [], ◌∷◌, ◌++◌, length, fold, ℤ, pos, negsuc, Some, Ok, codes, encode_utf8_all, if◌then◌else◌}
+use Rattle.std.specs.Prelude.{◌≡◌, ◌≢◌, ℕ, ◌+◌, ◌^◌, ◌<◌, ◌≤◌, Bool, true, false, nat_eq, nat_lt}
+use Rattle.std.specs.Prelude.{max, List, [], ◌∷◌, ◌++◌, length, fold, ℤ, pos, negsuc, Some, Ok}
+use Rattle.std.specs.Prelude.{codes, encode_utf8_all, if◌then◌else◌}
 use Rattle.std.specs.List.{list_any}
 use Rattle.std.specs.Str.{all_scalars}
-use Rattle.tp_terms.specs.Term.{Name, Term, Terms, Var, Int, Atom, Comp, NoMore, More, names_eq, replaced, count_of}
+use Rattle.tp_terms.specs.Term.{Name, Term, Terms, Var, Int, Atom, Comp, NoMore, More, names_eq}
+use Rattle.tp_terms.specs.Term.{replaced, count_of}
 use Rattle.tp_parse.specs.Table.{Op, Table, right_bound, start_table}
 use Rattle.tp_parse.specs.Texts.{Found, clause_of}
-use Rattle.tp_write.specs.Text.{Form, Listed, Braces, Infix, Prefix, form_of, priority, operand_closed, left_closed, unary, binary, text}
+use Rattle.tp_write.specs.Text.{Form, Listed, Braces, Infix, Prefix, form_of, priority}
+use Rattle.tp_write.specs.Text.{operand_closed, left_closed, unary, binary, text}
 
 -- ---- the terms of which the law speaks
 

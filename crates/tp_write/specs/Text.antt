@@ -1,11 +1,13 @@
 -- The written form of a term under a table of operators.
-use Rattle.std.specs.Prelude.{ℕ, Bool, true, false, not, ◌&&◌, ◌||◌, nat_eq, nat_lt, List, [], ◌∷◌, ◌++◌, Option, Some, None, codes, decimal, is_some, if◌then◌else◌}
+use Rattle.std.specs.Prelude.{ℕ, Bool, true, false, not, ◌&&◌, ◌||◌, nat_eq, nat_lt, List, [], ◌∷◌}
+use Rattle.std.specs.Prelude.{◌++◌, Option, Some, None, codes, decimal, is_some, if◌then◌else◌}
 use Rattle.std.specs.Fmt.{signed_decimal}
 use Rattle.tp_terms.specs.Term.{Name, Term, Terms, Var, Int, Atom, Comp, NoMore, More, names_eq}
 use Rattle.tp_parse.specs.Table.{Op, Table, left_bound, right_bound}
 use Rattle.tp_parse.specs.declared.table.OpType.TheVariants.{Xfx, Yfx, Fx}
 pub use Rattle.tp_write.specs.declared.pieces.Form.{Form}
-pub use Rattle.tp_write.specs.declared.pieces.Form.TheVariants.{Listed, Braces, Infix, Prefix, Plain}
+pub use Rattle.tp_write.specs.declared.pieces.Form.TheVariants.{Listed, Braces, Infix, Prefix}
+pub use Rattle.tp_write.specs.declared.pieces.Form.TheVariants.{Plain}
 use Rattle.tp_write.specs.Names.{name_text}
 
 -- ---- compounds

@@ -1,5 +1,7 @@
 -- What is left to write: pieces, each of which stands for its text.
-use Rattle.std.specs.Prelude.{◌≡◌, ℕ, zero, suc, ◌+◌, ◌*◌, ◌<◌, ◌≤◌, ◌^◌, Bool, true, false, not, ◌&&◌, ◌||◌, nat_lt, nat_eq, is_some, List, [], ◌∷◌, ◌++◌, length, Option, None, codes, decimal, if◌then◌else◌, Result, OnOk}
+use Rattle.std.specs.Prelude.{◌≡◌, ℕ, zero, suc, ◌+◌, ◌*◌, ◌<◌, ◌≤◌, ◌^◌, Bool, true, false, not}
+use Rattle.std.specs.Prelude.{◌&&◌, ◌||◌, nat_lt, nat_eq, is_some, List, [], ◌∷◌, ◌++◌, length}
+use Rattle.std.specs.Prelude.{Option, None, codes, decimal, if◌then◌else◌, Result, OnOk}
 use Rattle.std.specs.Fmt.{signed_decimal}
 use Rattle.std.specs.declared.alloc.Global.{Global}
 use Rattle.std.specs.declared.vec.Vec.{Vec}
@@ -19,7 +21,9 @@ use Rattle.tp_write.specs.declared.pieces.Position.TheVariants.{Within, Operand,
 use Rattle.tp_write.specs.declared.pieces.Piece.{Piece}
 use Rattle.tp_write.specs.declared.pieces.Piece.TheVariants as piece
 use Rattle.tp_write.specs.Names.{name_text}
-use Rattle.tp_write.specs.Text.{unary_form, binary_form, priority, priority_by, may_stand_left, operand_closed, left_closed, in_parentheses, args_text, written, all_written}
+use Rattle.tp_write.specs.Text.{unary_form, binary_form, priority, priority_by, may_stand_left}
+use Rattle.tp_write.specs.Text.{operand_closed, left_closed, in_parentheses, args_text, written}
+use Rattle.tp_write.specs.Text.{all_written}
 use Rattle.tp_write.specs.Under.{under}
 
 -- ---- cells under bindings
