@@ -13,7 +13,7 @@ ghost use Rattle.tp_machine.specs.HeadsTried.{TriesHead, is_met};
 
 use tp_clauses::ClauseView;
 use tp_state::State;
-use tp_store::Store;
+use tp_store::{Store, Variant};
 use tp_terms::{Cells, NoMemory, Ref};
 
 /// Whether the head of a clause has a unifier with a goal. The store stays.
@@ -33,7 +33,12 @@ pub fn meets(
 {
     let mark = store.mark();
     let base = store.claim(clause.vars)?;
-    let found = store.head_unifiable(goal, cells, clause.head, base)?;
+    let head = Variant {
+        cells,
+        root: clause.head,
+        base,
+    };
+    let found = store.head_unifiable(goal, head)?;
     store.back_to(mark);
     Ok(found)
 }
@@ -65,9 +70,12 @@ pub fn try_head(
 {
     let mark = state.store.mark();
     let base = state.store.claim(clause.vars)?;
-    let met = state
-        .store
-        .unify_head(goal, cells, clause.head, base, &mut state.log)?;
+    let head = Variant {
+        cells,
+        root: clause.head,
+        base,
+    };
+    let met = state.store.unify_head(goal, head, &mut state.log)?;
     if !met {
         state.store.back_to(mark);
         return Ok(Head::Apart);

@@ -169,7 +169,10 @@ fn reports_answers(rt: HostRuntime) -> Result<(), Fail> {
     let out = answer(alloc, &two, &all, 21)?;
     assert_eq!(rt;
         out.as_str(),
-        "answer 1\nX = 1\n_Y = _1\n0 main: start\n0 main: new(+,0,inf)\n0 main: new('It\\'s',3,7)\n0 main: send(_1,/\\)\n0 '+': start\n0 '+': hold(5)\n0 '/\\\\': take(_1)\n3 'It\\'s': note(1)\n5 '+': end\nend 0 steps 21\n"
+        "answer 1\nX = 1\n_Y = _1\n\
+         0 main: start\n0 main: new(+,0,inf)\n0 main: new('It\\'s',3,7)\n0 main: send(_1,/\\)\n\
+         0 '+': start\n0 '+': hold(5)\n0 '/\\\\': take(_1)\n3 'It\\'s': note(1)\n\
+         5 '+': end\nend 0 steps 21\n"
     );
     Ok(())
 }

@@ -3,7 +3,7 @@
 use std::alloc::Global;
 use std::test::Fail;
 use tp_log::{Entry, Log};
-use tp_store::Store;
+use tp_store::{Store, Variant};
 use tp_terms::{AtomId, Binds, Cell, Cells, NoMemory, Ref};
 
 // The places of `a`, `b` and `f` in some table of names.
@@ -84,7 +84,12 @@ fn takes_back(alloc: Global) -> Result<bool, NoMemory> {
     let x = store.fresh()?;
     let y = store.fresh()?;
     let same = store.unify(y, x, &mut log)?;
-    let equal = store.unify_head(x, &head, root, 0, &mut log)?;
+    let fact = Variant {
+        cells: &head,
+        root,
+        base: 0,
+    };
+    let equal = store.unify_head(x, fact, &mut log)?;
     let newest = log.pop_above(1);
     if store.bound(0).is_some() {
         store.undo_bind(0);

@@ -17,4 +17,5 @@ mod spare;
 pub mod store;
 mod trail;
 
+pub use head::Variant;
 pub use store::Store;

@@ -25,7 +25,7 @@ use crate::block::copy_block;
 use crate::body::body_of;
 use crate::chains::Chains;
 use crate::copy::instance;
-use crate::head::{head_unifiable, unify_head};
+use crate::head::{Variant, head_unifiable, unify_head};
 use crate::join::goal_with;
 use crate::logged::unify_logged;
 use crate::order::compare;
@@ -218,56 +218,51 @@ impl Store {
         unify_logged(&mut self.chains, alloc, left, right, log)
     }
 
-    /// Makes the term of `goal` equal to that of `head` in `from`, whose variable `k` is number
-    /// `base + k`, and adds an entry to the log for each binding, the oldest first: the most
-    /// general unifier over the substitution so far, with occurs check. The condition `claimed` is
-    /// that these numbers were claimed. No place that stood shows another term afterwards. False
-    /// exactly where there is no unifier; then nothing is bound, added or logged.
+    /// Makes the term of `goal` equal to that of `head`, and adds an entry to the log for each
+    /// binding, the oldest first: the most general unifier over the substitution so far, with
+    /// occurs check. The condition `claimed` is that the numbers of the head's variables were
+    /// claimed. No place that stood shows another term afterwards. False exactly where there is no
+    /// unifier; then nothing is bound, added or logged.
     ///
     /// Answers `NoMemory` where the memory for it isn't had, and then nothing is bound, added or
     /// logged.
     pub fn unify_head(
         &mut self,
         goal: Ref,
-        from: &Cells,
-        head: Ref,
-        base: u64,
+        head: Variant<'_>,
         log: &mut Log,
     ) -> Result<bool, NoMemory>
         requires goal { goal.at < length self.old.cells }
-        requires head { head.at < length from.now.items }
-        requires claimed { IsClaimed from.now.items head.at base self.old.vars }
+        requires head { head.root.at < length head.cells.now.items }
+        requires claimed { IsClaimed head.cells.now.items head.root.at head.base self.old.vars }
         ensures found { IfOk result
-            (FindsHead self.old self.new goal from.now.items head base) }
+            (FindsHead self.old self.new goal head.entry.cells.now.items head.entry.root
+            head.entry.base) }
         ensures logged { LogsHead self.old self.new log.old log.new }
         ensures unchanged { result ≢ Ok true → self.new ≡ self.old }
         ensures log_stays { result ≢ Ok true → log.new ≡ log.old }
         ensures terms { OnOk result (KeepsTerms self.old.cells self.new.cells) }
-        ensures named { OnOk result (NamesBoth from.now.items self.old.cells self.new.cells) }
+        ensures named { OnOk result (NamesBoth head.entry.cells.now.items self.old.cells self.new.cells) }
         ensures store { IsStore self.new }
     {
-        unify_head(&mut self.chains, goal, from, head, base, log)
+        unify_head(&mut self.chains, goal, head, log)
     }
 
     /// What `unify_head` would answer. Nothing is bound, added or logged. The condition `claimed`
     /// is that the numbers of the variables were claimed.
     ///
     /// Answers `NoMemory` where the memory for it isn't had.
-    pub fn head_unifiable(
-        &mut self,
-        goal: Ref,
-        from: &Cells,
-        head: Ref,
-        base: u64,
-    ) -> Result<bool, NoMemory>
+    pub fn head_unifiable(&mut self, goal: Ref, head: Variant<'_>) -> Result<bool, NoMemory>
         requires goal { goal.at < length self.old.cells }
-        requires head { head.at < length from.now.items }
-        requires claimed { IsClaimed from.now.items head.at base self.old.vars }
-        ensures found { IfOk result (HeadIsUnifiable self.old goal from.now.items head base) }
+        requires head { head.root.at < length head.cells.now.items }
+        requires claimed { IsClaimed head.cells.now.items head.root.at head.base self.old.vars }
+        ensures found { IfOk result
+            (HeadIsUnifiable self.old goal head.entry.cells.now.items head.entry.root
+            head.entry.base) }
         ensures unchanged { self.new ≡ self.old }
         ensures store { IsStore self.new }
     {
-        head_unifiable(&mut self.chains, goal, from, head, base)
+        head_unifiable(&mut self.chains, goal, head)
     }
 
     /// Takes the newest binding of a bound variable back; all else stays. Takes no memory. The

@@ -8,7 +8,7 @@ take_back-requires-clause-can c = can_take_back c.args.chains.now c.meet_all-ans
 
 pub returns-clause-found : goal.returns-clause-found
 returns-clause-found c =
-    met_tells (contents_of c.args.chains.now) (contents_of c.meet_all-answer.new.chains) c.args.goal c.args.head c.args.from.now.items c.args.base c.requires.chains.store c.meet_all-answer.ensures.chains.store c.meet_all-answer.result c.meet_all-answer.ensures.found
+    met_tells (contents_of c.args.chains.now) (contents_of c.meet_all-answer.new.chains) c.args.goal c.args.head.root c.args.head.cells.now.items c.args.head.base c.requires.chains.store c.meet_all-answer.ensures.chains.store c.meet_all-answer.result c.meet_all-answer.ensures.found
 
 pub returns-clause-value : goal.returns-clause-value
 returns-clause-value c =

@@ -20,15 +20,15 @@ pub returns-in-Ok-clause-found : goal.returns-in-Ok-clause-found
 returns-in-Ok-clause-found c =
     let old = contents_of c.args.chains.now in
     let now = contents_of c.meet_all.new.chains in
-    met_finds old now c.args.goal c.args.head c.args.from.now.items c.args.base c.requires.chains.store c.meet_all.ensures.chains.store true
-    (subst (Meets old now c.args.from.now.items (λ names. shows names old.cells c.args.goal.at) (λ names. renamed c.args.base (shows names c.args.from.now.items c.args.head.at)) (λ names. [])) c.in-Ok-true.field-0-test c.in-Ok-true.ensures.found)
+    met_finds old now c.args.goal c.args.head.root c.args.head.cells.now.items c.args.head.base c.requires.chains.store c.meet_all.ensures.chains.store true
+    (subst (Meets old now c.args.head.cells.now.items (λ names. shows names old.cells c.args.goal.at) (λ names. renamed c.args.head.base (shows names c.args.head.cells.now.items c.args.head.root.at)) (λ names. [])) c.in-Ok-true.field-0-test c.in-Ok-true.ensures.found)
 
 pub returns-in-Ok-false-clause-found : goal.returns-in-Ok-false-clause-found
 returns-in-Ok-false-clause-found c =
     let old = contents_of c.args.chains.now in
     let now = contents_of c.meet_all.new.chains in
-    missed old now (contents_of c.take_back.new.chains) c.args.goal c.args.head c.args.from.now.items c.args.base c.requires.chains.store c.meet_all.ensures.chains.store
-    (subst (Meets old now c.args.from.now.items (λ names. shows names old.cells c.args.goal.at) (λ names. renamed c.args.base (shows names c.args.from.now.items c.args.head.at)) (λ names. [])) c.in-Ok-false.field-0-test c.in-Ok-false.ensures.found)
+    missed old now (contents_of c.take_back.new.chains) c.args.goal c.args.head.root c.args.head.cells.now.items c.args.head.base c.requires.chains.store c.meet_all.ensures.chains.store
+    (subst (Meets old now c.args.head.cells.now.items (λ names. shows names old.cells c.args.goal.at) (λ names. renamed c.args.head.base (shows names c.args.head.cells.now.items c.args.head.root.at)) (λ names. [])) c.in-Ok-false.field-0-test c.in-Ok-false.ensures.found)
 
 pub returns-in-Ok-clause-logged : goal.returns-in-Ok-clause-logged
 returns-in-Ok-clause-logged c =

@@ -13,4 +13,4 @@ returns-clause-terms c =
 
 pub returns-clause-named : goal.returns-clause-named
 returns-clause-named c =
-    subst (λ (x : Contents). OnOk c.unify_head.result ((n : ℕ) → AreNamed n c.args.from.now.items → AreNamed n x.cells → AreNamed n c.unify_head.new.chains.cells.items)) c.self.view_is c.unify_head.ensures.named
+    subst (λ (x : Contents). OnOk c.unify_head.result ((n : ℕ) → AreNamed n c.args.head.cells.now.items → AreNamed n x.cells → AreNamed n c.unify_head.new.chains.cells.items)) c.self.view_is c.unify_head.ensures.named
