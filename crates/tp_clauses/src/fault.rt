@@ -1,5 +1,10 @@
 //! Why a model is refused.
 
+ghost use Rattle.std.specs.Prelude.{◌≡◌};
+ghost use Rattle.tp_clauses.specs.Model.{cause_of};
+
+use tp_parse::ReadCause;
+
 /// The cause of a refusal (docs/LANGUAGE.md says exactly where each comes).
 #[derive(Clone, Copy, Debug, PartialEq, Eq)]
 pub enum Cause {
@@ -45,4 +50,18 @@ pub enum LoadFault {
     },
     /// Memory was refused.
     NoMemory,
+}
+
+/// The cause of a refusal by the reader, of a clause or of a goal.
+pub fn cause_of(cause: ReadCause) -> Cause
+    ensures { result ≡ cause_of cause }
+{
+    match cause {
+        ReadCause::Token => Cause::Token,
+        ReadCause::Number => Cause::Number,
+        ReadCause::Unfinished => Cause::Unfinished,
+        ReadCause::Syntax => Cause::Syntax,
+        ReadCause::Depth => Cause::Depth,
+        ReadCause::Arity => Cause::Arity,
+    }
 }

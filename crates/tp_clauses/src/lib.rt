@@ -13,5 +13,5 @@ mod load;
 mod parts;
 
 pub use base::{Base, ClauseId, ClauseView};
-pub use fault::{Cause, LoadFault};
+pub use fault::{Cause, LoadFault, cause_of};
 pub use first::FirstArg;

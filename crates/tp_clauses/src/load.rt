@@ -15,7 +15,7 @@ ghost use Rattle.tp_parse.specs.Texts.{Found};
 ghost use Rattle.tp_clauses.specs.Contents.{AreBelow, AreNameable, HasNames};
 ghost use Rattle.tp_clauses.specs.Kinds.{head_key, key_of, read_as};
 ghost use Rattle.tp_clauses.specs.Loaded.{AsksMemory};
-ghost use Rattle.tp_clauses.specs.Model.{OfClause, by_token, cause_of, kind_of, model_from};
+ghost use Rattle.tp_clauses.specs.Model.{OfClause, by_token, kind_of, model_from};
 ghost use Rattle.tp_clauses.specs.Model.{most_terms, rule as rule_of, with_head};
 ghost use Rattle.tp_clauses.specs.Parts.{IsParts};
 ghost use Rattle.tp_clauses.specs.Told.{IsNoInteger, MayDefine, MayTake, TellsBegin, TellsEnd};
@@ -25,12 +25,12 @@ ghost use Rattle.tp_clauses.specs.Told.{outcome};
 use crate::append::place_on;
 use crate::base::ClauseView;
 use crate::directive::{TermFault, run};
-use crate::fault::{Cause, LoadFault};
+use crate::fault::{Cause, LoadFault, cause_of};
 use crate::kind::{Key, ReadKind, head_key, kind_of};
 use crate::parts::{Parts, add_cells, add_clause, body_of, empty};
 use std::alloc::Global;
 use tp_lex::{LexFault, Token, next_token};
-use tp_parse::{ReadCause, ReadFault, ReadTerm, read_clause};
+use tp_parse::{ReadFault, ReadTerm, read_clause};
 use tp_terms::symbols::INF;
 use tp_terms::{Atoms, Cell, Cells, NoMemory, Ref};
 
@@ -163,20 +163,6 @@ fn read_next(
         }
         Err(ReadFault::NoMemory) => Err(LoadFault::NoMemory),
         Err(ReadFault::Refused { byte, cause }) => Err(refused(number, byte, cause_of(cause))),
-    }
-}
-
-/// The cause of a refusal by the reader.
-fn cause_of(cause: ReadCause) -> Cause
-    ensures { result ≡ cause_of cause }
-{
-    match cause {
-        ReadCause::Token => Cause::Token,
-        ReadCause::Number => Cause::Number,
-        ReadCause::Unfinished => Cause::Unfinished,
-        ReadCause::Syntax => Cause::Syntax,
-        ReadCause::Depth => Cause::Depth,
-        ReadCause::Arity => Cause::Arity,
     }
 }
 

@@ -1,7 +1,7 @@
 //! The lines of refusals.
 
 ghost use Rattle.std.specs.Prelude.{◌≡◌, IfOk};
-ghost use Rattle.tp_clauses.specs.Model.{cause_of as cause_of_reading, refusal};
+ghost use Rattle.tp_clauses.specs.Model.{refusal};
 ghost use Rattle.tp_top.specs.Expected.{alone, cause_word as word_of};
 ghost use Rattle.tp_top.specs.Expected.{goal_refused as goal_line};
 ghost use Rattle.tp_top.specs.Expected.{model_refused as model_line};
@@ -12,7 +12,6 @@ use crate::program::Status;
 use crate::report::Reply;
 use std::alloc::Global;
 use tp_clauses::Cause;
-use tp_parse::ReadCause;
 use tp_terms::NoMemory;
 
 /// The answer to words that are no request. Takes no memory.
@@ -54,20 +53,6 @@ fn cause_word(cause: Cause) -> &'static str
         Cause::Grammar => "Grammar",
         Cause::Directive => "Directive",
         Cause::Many => "Many",
-    }
-}
-
-/// The cause of a goal that has no reading.
-pub fn cause_of(cause: ReadCause) -> Cause
-    ensures { result ≡ cause_of_reading cause }
-{
-    match cause {
-        ReadCause::Token => Cause::Token,
-        ReadCause::Number => Cause::Number,
-        ReadCause::Unfinished => Cause::Unfinished,
-        ReadCause::Syntax => Cause::Syntax,
-        ReadCause::Depth => Cause::Depth,
-        ReadCause::Arity => Cause::Arity,
     }
 }
 
