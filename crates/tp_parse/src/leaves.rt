@@ -17,7 +17,6 @@ use crate::progress::Progress;
 use crate::steps::{Label, Step};
 use crate::stop::Stop;
 use crate::words::{Source, Word, plain_name};
-use std::alloc::{AllocError, Global};
 use tp_lex::{Token, TokenKind, integer_value, token_text};
 
 /// The least integer above those of terms.
@@ -59,29 +58,19 @@ pub fn link(steps: &mut Vec<Step>, count: usize, source: &Source<'_>) -> Result<
     Ok(())
 }
 
-/// Adds characters' codes as integers.
-fn push_codes(steps: &mut Vec<Step>, name: &[char], source: &Source<'_>) -> Result<(), Stop>
+/// Adds the codes of a text's characters as integers.
+fn push_codes(steps: &mut Vec<Step>, name: &str, source: &Source<'_>) -> Result<(), Stop>
     requires ready { AreReady source.now.text.now [] steps.old.items }
     ensures ready { AreReady source.now.text.now [] steps.new.items }
     ensures trees { let text = source.now.text.now in OnOk result
-        (trees_of text steps.new.items ≡ onto_codes name.now (trees_of text steps.old.items)) }
+        (trees_of text steps.new.items
+        ≡ onto_codes (chars name.now) (trees_of text steps.old.items)) }
     ensures memory { IfErr result (λ stop. stop ≡ Stop.NoMemory) }
 {
-    for character in name {
-        steps.push(Step::Integer(code(*character)))?;
+    for character in name.chars() {
+        steps.push(Step::Integer(code(character)))?;
     }
     Ok(())
-}
-
-/// The characters of a text.
-fn characters(alloc: Global, text: &str) -> Result<Vec<char>, AllocError>
-    ensures { IfOk result (λ name. name.items ≡ chars text.now) }
-{
-    let mut name = Vec::new(alloc);
-    for character in text.chars() {
-        name.push(character)?;
-    }
-    Ok(name)
 }
 
 /// A character's code.
@@ -110,10 +99,10 @@ fn push_list(steps: &mut Vec<Step>, token: Token, source: &Source<'_>) -> Result
     ensures memory { IfErr result (λ stop. stop ≡ Stop.NoMemory) }
 {
     let text = token_text(source.alloc, source.text, &token)?;
-    let name = characters(source.alloc, text.as_str())?;
-    push_codes(steps, &name, source)?;
+    let name = text.as_str();
+    push_codes(steps, name, source)?;
     steps.push(Step::Atom(Label::EmptyList))?;
-    link(steps, name.len(), source)?;
+    link(steps, name.chars().count(), source)?;
     Ok(())
 }
 

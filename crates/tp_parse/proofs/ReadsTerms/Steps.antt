@@ -1,6 +1,5 @@
 -- Steps: one more step, arguments on the trees before, and lists.
-use Rattle.std.proofs.Common.{◌≡◌, ℕ, suc, ◌+◌, ◌<◌, List, [], ◌∷◌, ◌++◌, length, get_or, drop, take, ℤ, pos, refl, sym, ap, subst, ◌∙◌, arith}
-use Rattle.std.proofs.lemmas.List.{take_more}
+use Rattle.std.proofs.Common.{◌≡◌, ℕ, suc, ◌+◌, ◌<◌, List, [], ◌∷◌, ◌++◌, length, drop, ℤ, pos, refl, sym, ap, subst, ◌∙◌, arith}
 use Rattle.tp_parse.specs.Tree.{Tree, Integer, Compound, Trees, none, first_of, list_cell, integers, empty_list}
 use Rattle.tp_parse.specs.Steps.{act, run, trees_of, row, IsReady, AreReady, label_name, onto, count, list_of, linked, onto_codes}
 use Rattle.tp_parse.specs.declared.steps.Label.{Label}
@@ -99,10 +98,9 @@ onto_codes-push : (ns : List ℕ) (n : ℕ) (made : List Tree) → onto_codes (n
 onto_codes-push [] n made = refl
 onto_codes-push (m ∷ ns) n made = onto_codes-push ns n (Integer (pos m) ∷ made)
 
-pub codes-more : (text : List ℕ) (steps new : List Step) (z : ℤ) (name : List ℕ) (i item d : ℕ) (before : List Tree) → new ≡ steps ++ step.Integer z ∷ [] → z ≡ pos item → item ≡ get_or name i d → i < length name → trees_of text steps ≡ onto_codes (take i name) before → trees_of text new ≡ onto_codes (take (i + 1) name) before
-codes-more text steps new z name i item d before e f g h same =
-    trees-more text steps new _ e ∙ ap (λ m. Integer z ∷ m) same ∙ ap (λ y. Integer y ∷ onto_codes (take i name) before) (f ∙ ap pos g)
-    ∙ sym (onto_codes-push (take i name) (get_or name i d) before) ∙ ap (λ l. onto_codes l before) (sym (take_more name i d h))
+pub codes-more : (text : List ℕ) (steps new : List Step) (z : ℤ) (name : List ℕ) (item : ℕ) (before : List Tree) → new ≡ steps ++ step.Integer z ∷ [] → z ≡ pos item → trees_of text steps ≡ onto_codes name before → trees_of text new ≡ onto_codes (name ++ item ∷ []) before
+codes-more text steps new z name item before e f same =
+    trees-more text steps new _ e ∙ ap (λ m. Integer z ∷ m) same ∙ ap (λ y. Integer y ∷ onto_codes name before) f ∙ sym (onto_codes-push name item before)
 
 pub enough-codes : (text : List ℕ) (mid new : List Step) (name : List ℕ) (n : ℕ) (before : List Tree) → trees_of text mid ≡ onto_codes name before → new ≡ mid ++ step.Atom label.EmptyList ∷ [] → n ≡ length name → n < length (trees_of text new)
 enough-codes text mid new name n before e f g =

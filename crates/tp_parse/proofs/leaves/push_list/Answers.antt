@@ -1,4 +1,6 @@
-use Rattle.std.proofs.Common.{sym, ap, chars, ◌∙◌}
+use Rattle.std.proofs.Common.{ap, chars, ◌∙◌}
+use Rattle.std.proofs.lemmas.Iterator.{YieldsList-from_chars}
+use Rattle.std.proofs.lemmas.Iterator.Consumers.{count_from_yields_List}
 use Rattle.tp_parse.proofs.ReadsTerms.Steps.{ready-more, enough-codes, list-made}
 use Rattle.tp_parse.proofs.leaves.push_list.Goals as goal
 
@@ -7,8 +9,11 @@ link-requires-clause-ready c = ready-more c.args.source.now.text.now c.push_code
 
 pub link-requires-clause-enough : goal.link-requires-clause-enough
 link-requires-clause-enough c =
-    enough-codes c.args.source.now.text.now c.push_codes.new.steps.items c.push.new.self.items c.deref.result.now _ _ c.in_ok-push_codes.ensures.trees c.in_ok-push.ensures.items (c.len.ensures ∙ sym c.deref.ensures.len)
+    enough-codes c.args.source.now.text.now c.push_codes.new.steps.items c.push.new.self.items (chars c.as_str-name.result.now) _ _ c.in_ok-push_codes.ensures.trees c.in_ok-push.ensures.items
+    (count_from_yields_List c.chars.result c.count.result c.count.ensures.ran (YieldsList-from_chars c.as_str-name.result.now c.as_str-name.utf8 cc))
 
 pub returns-clause-trees : goal.returns-clause-trees
 returns-clause-trees c =
-    list-made c.args.source.now.text.now c.push_codes.new.steps.items c.push.new.self.items c.deref.result.now _ _ _ _ c.in_ok-push_codes.ensures.trees c.in_ok-push.ensures.items (c.len.ensures ∙ sym c.deref.ensures.len) (c.deref.ensures.value ∙ c.in_ok-name.ensures ∙ ap chars c.as_str.ensures.value ∙ c.in_ok-text.ensures) c.in_ok-link.ensures.trees
+    list-made c.args.source.now.text.now c.push_codes.new.steps.items c.push.new.self.items (chars c.as_str-name.result.now) _ _ _ _ c.in_ok-push_codes.ensures.trees c.in_ok-push.ensures.items
+    (count_from_yields_List c.chars.result c.count.result c.count.ensures.ran (YieldsList-from_chars c.as_str-name.result.now c.as_str-name.utf8 cc))
+    (ap chars c.as_str-name.ensures.value ∙ c.in_ok-text.ensures) c.in_ok-link.ensures.trees
