@@ -167,25 +167,23 @@ fn text_of(
     cells: &Cells,
     root: Ref,
     max: u16,
-    ops: &Ops,
     atoms: &Atoms,
-) -> Result<String, NoMemory>
+) -> Result<String, OpFault>
     requires root { root.at < length cells.now.items }
     requires named { AreNamed (length atoms.now) cells.now.items }
 {
+    let ops = operators(alloc)?;
     let mut out = String::new(alloc);
-    write_term(alloc, cells, root, &NoBinds, max, ops, atoms, &mut out)?;
+    write_term(alloc, cells, root, &NoBinds, max, &ops, atoms, &mut out)?;
     Ok(out)
 }
 
 /// The written form of the term of some words.
 fn written(alloc: Global, words: &str, max: u16) -> Result<String, OpFault> {
-    let ops = operators(alloc)?;
     let mut atoms = Atoms::start(alloc)?;
     let mut cells = Cells::new(alloc);
     let root = term(alloc, words, &mut atoms, &mut cells)?;
-    let out = text_of(alloc, &cells, root, max, &ops, &atoms)?;
-    Ok(out)
+    text_of(alloc, &cells, root, max, &atoms)
 }
 
 #[test]
@@ -261,7 +259,6 @@ fn add_times(text: &str, times: u32, out: &mut String) -> Result<(), NoMemory> {
 
 /// The written form of a tower of lists, or of compounds of one argument.
 fn tower_text(alloc: Global, pairs: bool) -> Result<String, OpFault> {
-    let ops = operators(alloc)?;
     let atoms = Atoms::start(alloc)?;
     let mut cells = Cells::new(alloc);
     let root = if pairs {
@@ -269,8 +266,7 @@ fn tower_text(alloc: Global, pairs: bool) -> Result<String, OpFault> {
     } else {
         tower(CALL, false, Cell::Int(7), &atoms, &mut cells)?
     };
-    let out = text_of(alloc, &cells, root, 0, &ops, &atoms)?;
-    Ok(out)
+    text_of(alloc, &cells, root, 0, &atoms)
 }
 
 /// A text so many times, a second one, and a third one so many times.
