@@ -1,7 +1,7 @@
 //! The base of clauses.
 
 ghost use Rattle.std.specs.Prelude.{◌≡◌, ◌<◌, ◌^◌, List, [], length, map, slice_get, true, false};
-ghost use Rattle.std.specs.Prelude.{Some, Err, IfOk, IfSome, MatchOption};
+ghost use Rattle.std.specs.Prelude.{Some, None, Err, IfOk, IfSome, MatchOption};
 ghost use Rattle.std.specs.List.{AllByRecursion};
 ghost use Rattle.std.specs.Str.{is_utf8};
 ghost use Rattle.tp_terms.specs.Term.{Name};
@@ -9,6 +9,7 @@ ghost use Rattle.tp_terms.specs.Names.{AreDistinct, Grows};
 ghost use Rattle.tp_terms.specs.Shown.{AreNamed, name_at};
 ghost use Rattle.tp_meaning.specs.Clauses.{predicate};
 ghost use Rattle.tp_meaning.specs.Valid.{ClauseFits};
+ghost use Rattle.tp_clauses.specs.Candidates.{kept_for};
 ghost use Rattle.tp_clauses.specs.Contents.{IsBase, ViewFits, base_of, clauses_at, places_of};
 ghost use Rattle.tp_clauses.specs.First.{candidates_of, first_arg, same_first};
 ghost use Rattle.tp_clauses.specs.Loaded.{AsksMemory, HasBody, Tells};
@@ -139,24 +140,27 @@ impl Base {
             AreNamed (length names) self.now.cells → name.at < length names →
             IfSome result (λ ids. GivesWorlds names self.now name arity first ids.now) }
     {
-        let all = self.clauses(name, arity)?;
         if first == FirstArg::Any {
+            let all = self.clauses(name, arity)?;
             return Some(all);
         }
-        Some(self.list(Key { name, arity }, first, all))
+        let key = Key { name, arity };
+        if let Some(list) = self.candidates.list(FirstKey { key, first }) {
+            return Some(list);
+        }
+        let all = self.clauses(name, arity)?;
+        Some(self.without_list(key, first, all))
     }
 
-    /// The candidates among the clauses of a predicate: the list of the first argument, else that
-    /// of any, and where no list is kept all or none.
-    fn list<'a>(&'a self, key: Key, first: FirstArg, all: &'a [ClauseId]) -> &'a [ClauseId]
+    /// The candidates among the clauses of a predicate where the first argument has no list: the
+    /// list of any, and where no list is kept all or none.
+    fn without_list<'a>(&'a self, key: Key, first: FirstArg, all: &'a [ClauseId]) -> &'a [ClauseId]
         requires all { all.now ≡ places_of key.name key.arity self.now }
         requires some { 0 < length all.now }
         requires first { same_first first FirstArg.Any ≡ false }
+        requires own { kept_for (record { key = key; first = first }) self.now ≡ None }
         ensures { result.now ≡ candidates_of key.name key.arity first self.now }
     {
-        if let Some(list) = self.candidates.list(FirstKey { key, first }) {
-            return list;
-        }
         let others = FirstKey {
             key,
             first: FirstArg::Any,

@@ -1,5 +1,5 @@
 -- What is found in the lists of a base are the candidates.
-use Rattle.std.proofs.Common.{◌≡◌, ℕ, Bool, true, false, List, [], ◌∷◌, slice_get, Some, None, ◌||◌, cond, filter, refl, sym, ap, subst, ◌∙◌, if◌then◌else◌}
+use Rattle.std.proofs.Common.{◌≡◌, ◌<◌, arith, length, ℕ, Bool, true, false, List, [], ◌∷◌, slice_get, Some, None, ◌||◌, cond, filter, refl, sym, ap, subst, ◌∙◌, if◌then◌else◌}
 use Rattle.tp_clauses.specs.Candidates.{HasLists, listed_in}
 use Rattle.tp_clauses.specs.Contents.{Contents, places_of}
 use Rattle.tp_clauses.specs.First.{candidates_of, first_arg, is_indexed, may_match, same_first}
@@ -34,6 +34,14 @@ module _ (c : Contents) (lists : Candidates) (h : HasLists c lists) (key : Key) 
   -- the list of the first argument
   pub chosen_own : (l : List ClauseId) → listed_in lists (key_with key f) ≡ Some l → l ≡ candidates_of key.name key.arity f c
   chosen_own l e = in_list (first_arg c) f other all l (sym (h.kept (key_with key f)) ∙ e)
+
+  -- a predicate that has a list has clauses
+  pub chosen_some : (l : List ClauseId) → listed_in lists (key_with key f) ≡ Some l → 0 < length all
+  chosen_some l e = go all (sym (h.kept (key_with key f)) ∙ e)
+    where
+      go : (xs : List ClauseId) → kept (first_arg c) f xs ≡ Some l → 0 < length xs
+      go [] e = absurd (cc)
+      go (x ∷ xs) e = omega arith
 
   -- the list for the first arguments that no clause has
   pub chosen_any : (l : List ClauseId) → listed_in lists (key_with key f) ≡ None → listed_in lists (key_with key Any) ≡ Some l → l ≡ candidates_of key.name key.arity f c

@@ -4,19 +4,15 @@ use Rattle.tp_clauses.specs.Candidates.{HasLists}
 use Rattle.tp_clauses.specs.Contents.{Contents, places_of}
 use Rattle.tp_clauses.specs.First.{may_match}
 use Rattle.tp_clauses.specs.declared.base.ClauseId.{ClauseId}
-use Rattle.tp_clauses.proofs.Lists.Chosen.{chosen_any, chosen_first, chosen_own}
+use Rattle.tp_clauses.proofs.Lists.Chosen.{chosen_any, chosen_first, key_with}
 use Rattle.tp_clauses.proofs.Lists.Merged.{first_within}
-use Rattle.tp_clauses.proofs.base.Base.list.Goals as goal
+use Rattle.tp_clauses.proofs.base.Base.without_list.Goals as goal
 
 pub returns-in-Some : goal.returns-in-Some
 returns-in-Some c =
-    chosen_own c.args.self.now c.self.inside.candidates (subst (λ (b : Contents). HasLists b c.self.inside.candidates) c.self.view_is c.self.invariant.1) c.args.key c.args.first c.requires.first c.in-Some.list.now
-    (sym c.in-Some.ensures)
-
-pub returns-in-Some-list : goal.returns-in-Some-list
-returns-in-Some-list c =
-    chosen_any c.args.self.now c.self.inside.candidates (subst (λ (b : Contents). HasLists b c.self.inside.candidates) c.self.view_is c.self.invariant.1) c.args.key c.args.first c.requires.first c.in-Some-list.list.now
-    (sym c.in_default.ensures) (sym c.in-Some-list.ensures)
+    let lists = subst (λ (b : Contents). HasLists b c.self.inside.candidates) c.self.view_is c.self.invariant.1 in
+    chosen_any c.args.self.now c.self.inside.candidates lists c.args.key c.args.first c.requires.first c.in-Some.list.now
+    (lists.kept (key_with c.args.key c.args.first) ∙ c.requires.own) (sym c.in-Some.ensures)
 
 pub first_arg-requires : goal.first_arg-requires
 first_arg-requires c =
@@ -25,15 +21,17 @@ first_arg-requires c =
 
 pub returns-then-may_match : goal.returns-then-may_match
 returns-then-may_match c =
+    let lists = subst (λ (b : Contents). HasLists b c.self.inside.candidates) c.self.view_is c.self.invariant.1 in
     c.requires.all
     ∙ ap (λ b. if b then places_of c.args.key.name c.args.key.arity c.args.self.now else []) (sym c.if-may_match.true ∙ c.may_match.ensures ∙ ap (may_match c.args.first) c.first_arg.ensures)
-    ∙ chosen_first c.args.self.now c.self.inside.candidates (subst (λ (b : Contents). HasLists b c.self.inside.candidates) c.self.view_is c.self.invariant.1) c.args.key c.args.first c.requires.first (get_or c.args.all.now 0 (record { at = 0 }))
+    ∙ chosen_first c.args.self.now c.self.inside.candidates lists c.args.key c.args.first c.requires.first (get_or c.args.all.now 0 (record { at = 0 }))
     (ap (λ (l : List ClauseId). slice_get l 0) (sym c.requires.all) ∙ slice_get-get_or c.args.all.now 0 (record { at = 0 }) c.requires.some)
-    (sym c.in_default.ensures) (sym c.in_default-list.ensures)
+    (lists.kept (key_with c.args.key c.args.first) ∙ c.requires.own) (sym c.in_default.ensures)
 
 pub returns-else-may_match : goal.returns-else-may_match
 returns-else-may_match c =
+    let lists = subst (λ (b : Contents). HasLists b c.self.inside.candidates) c.self.view_is c.self.invariant.1 in
     ap (λ b. if b then places_of c.args.key.name c.args.key.arity c.args.self.now else []) (sym c.if-may_match.false ∙ c.may_match.ensures ∙ ap (may_match c.args.first) c.first_arg.ensures)
-    ∙ chosen_first c.args.self.now c.self.inside.candidates (subst (λ (b : Contents). HasLists b c.self.inside.candidates) c.self.view_is c.self.invariant.1) c.args.key c.args.first c.requires.first (get_or c.args.all.now 0 (record { at = 0 }))
+    ∙ chosen_first c.args.self.now c.self.inside.candidates lists c.args.key c.args.first c.requires.first (get_or c.args.all.now 0 (record { at = 0 }))
     (ap (λ (l : List ClauseId). slice_get l 0) (sym c.requires.all) ∙ slice_get-get_or c.args.all.now 0 (record { at = 0 }) c.requires.some)
-    (sym c.in_default.ensures) (sym c.in_default-list.ensures)
+    (lists.kept (key_with c.args.key c.args.first) ∙ c.requires.own) (sym c.in_default.ensures)
