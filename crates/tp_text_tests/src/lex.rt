@@ -198,7 +198,7 @@ fn other_token() -> Option<usize> {
 }
 
 #[test]
-fn worked_rows(rt: HostRuntime) -> Result<(), Fail> {
+fn tokens(rt: HostRuntime) -> Result<(), Fail> {
     for (text, kind, from, to) in TOKENS {
         let wanted = Token { kind, from, to };
         assert_eq!(rt; first(text), Ok(Some(wanted)), "at {text}");
@@ -206,20 +206,40 @@ fn worked_rows(rt: HostRuntime) -> Result<(), Fail> {
     for text in ["", "  % c"] {
         assert_eq!(rt; first(text), Ok(None), "at {text}");
     }
+    assert_eq!(rt; other_token(), None);
+    Ok(())
+}
+
+#[test]
+fn faults(rt: HostRuntime) -> Result<(), Fail> {
     for (text, fault) in FAULTS {
         assert_eq!(rt; first(text), Err(fault), "at {text}");
     }
+    Ok(())
+}
+
+#[test]
+fn integers(rt: HostRuntime) -> Result<(), Fail> {
     for (text, number, to) in INTEGERS {
         assert_eq!(rt; value(text), Some((number, to)), "at {text}");
     }
+    Ok(())
+}
+
+#[test]
+fn names(rt: HostRuntime) -> Result<(), Fail> {
     for (text, wanted) in NAMES {
         let found = name(rt.alloc(), text)?;
         assert_eq!(rt; found.as_str(), wanted, "at {text}");
     }
-    assert_eq!(rt; other_token(), None);
     for (name, wanted) in LETTER_DIGIT {
         assert_eq!(rt; is_letter_digit(name), wanted, "at {name}");
     }
+    Ok(())
+}
+
+#[test]
+fn classes(rt: HostRuntime) -> Result<(), Fail> {
     assert!(rt; are_in_class(Class::Graphic, "+-*/\\^<>=~:.?@#&$"));
     assert!(rt; is_layout(' ') && is_graphic('$') && is_name_start('é') && is_variable_start('_'));
     assert!(rt; !is_in_class(Class::Continuing, '-') && split_first("").is_none());

@@ -121,38 +121,41 @@ impl Print for Outlet {
 
 #[test]
 fn worked_rows(rt: HostRuntime) -> Result<(), Fail> {
-    let alloc = rt.alloc();
-    assert_eq!(rt; other_text(alloc)?, None);
-    assert_eq!(rt; long_text(alloc, 0)?, LONGEST_TEXT);
-    assert_eq!(rt; long_text(alloc, 1)?, 0);
-    assert_eq!(rt; other_write(alloc)?, None);
+    assert_eq!(rt; other_text(rt.alloc())?, None);
+    assert_eq!(rt; long_text(rt.alloc(), 0)?, LONGEST_TEXT);
+    assert_eq!(rt; long_text(rt.alloc(), 1)?, 0);
+    assert_eq!(rt; other_write(rt.alloc())?, None);
     assert_eq!(rt; write_all(&mut OutSink::new(&rt), b"hello\n"), Ok(()));
     for outlet in [Outlet::Full, Outlet::Closed] {
-        assert_eq!(rt;
-            write_all(&mut OutSink::new(&outlet), b"hello"),
-            Err(WriteFault)
-        );
+        let written = write_all(&mut OutSink::new(&outlet), b"hello");
+        assert_eq!(rt; written, Err(WriteFault));
     }
+    Ok(())
+}
 
-    // A file of three pieces, read whole and then in its middle, and gone at the next read.
-    let name = format!(in alloc; "tp_outside-{}", process::id(rt.process()))?;
-    let path = env::temp_dir(&rt)?.join(alloc, name.as_str())?;
+/// The text of a file of three pieces.
+fn three_pieces(alloc: Global) -> Result<Vec<u8>, AllocError> {
     let mut text = vec![in alloc; b'a'; 39_998]?;
     text.extend_from_slice(b"bc")?;
+    Ok(text)
+}
+
+#[test]
+fn a_file_is_read_whole_and_in_its_middle(rt: HostRuntime) -> Result<(), Fail> {
+    let text = three_pieces(rt.alloc())?;
+    let name = format!(in rt.alloc(); "tp_outside-{}", process::id(rt.process()))?;
+    let path = env::temp_dir(&rt)?.join(rt.alloc(), name.as_str())?;
     fs::write(&rt, path.as_path(), text.as_slice())?;
     let mut shelf = FileShelf::new(&rt);
-    let whole = read_all(alloc, &mut shelf, path.as_str());
+    let whole = read_all(rt.alloc(), &mut shelf, path.as_str());
     let mut buf = [0; 4];
     let middle = shelf.read(path.as_str(), 39_998, &mut buf);
     fs::remove_file(&rt, path.as_path())?;
-    assert!(rt; whole?.as_slice() == text.as_slice());
-    assert_eq!(rt; middle, Ok(2));
-    assert!(rt; buf.as_slice().starts_with(b"bc"));
-    assert!(rt;
-        matches!(
-            read_all(alloc, &mut shelf, path.as_str()),
-            Err(ReadError::Fault)
-        )
-    );
+    let gone = read_all(rt.alloc(), &mut shelf, path.as_str());
+    let is_read = match (whole, gone) {
+        (Ok(whole), Err(ReadError::Fault)) => whole.as_slice() == text.as_slice(),
+        _ => false,
+    };
+    assert!(rt; is_read && middle == Ok(2) && buf.as_slice().starts_with(b"bc"));
     Ok(())
 }
