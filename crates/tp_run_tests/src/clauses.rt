@@ -1,5 +1,6 @@
 //! Each public call once, on a model from outside. The refusals are cases of the program.
 
+use std::alloc::Global;
 use std::test::Fail;
 use tp_clauses::{Base, Cause, ClauseId, FirstArg, LoadFault};
 use tp_terms::symbols::CALL;
@@ -30,25 +31,44 @@ fn third_clause(base: &Base) -> Option<(u64, AtomId)> {
     }
 }
 
+/// Why the text of a model has no base.
+fn refusal(alloc: Global, text: &[u8]) -> Result<Option<LoadFault>, Fail> {
+    let mut atoms = Atoms::start(alloc)?;
+    Ok(Base::load(alloc, text, &mut atoms).err())
+}
+
 #[test]
 fn clauses_of_a_model(rt: HostRuntime) -> Result<(), Fail> {
     let mut atoms = Atoms::start(rt.alloc())?;
     let base = Base::load(rt.alloc(), b"p(1). q. p(X) :- X, q.", &mut atoms)?;
     let (p, q) = (atoms.intern("p")?, atoms.intern("q")?);
-    assert!(rt; lists(&base, p, q));
-    assert!(rt; base.ops().infix("is").is_some());
-
     // the variable that stands as a goal is called
-    assert_eq!(rt; third_clause(&base), Some((1, CALL)));
+    let third = third_clause(&base) == Some((1, CALL));
+    assert!(rt; lists(&base, p, q) && third && base.ops().infix("is").is_some());
+    Ok(())
+}
 
-    let refused = LoadFault::Refused {
+#[test]
+fn a_model_is_refused(rt: HostRuntime) -> Result<(), Fail> {
+    let wanted = LoadFault::Refused {
         clause: 2,
         byte: 3,
         cause: Cause::Builtin,
     };
-    let again = Base::load(rt.alloc(), b"p. call(a,b,c,d,e,f,g,h) :- 1.", &mut atoms);
-    assert_eq!(rt; again.err(), Some(refused));
+    let refused = refusal(rt.alloc(), b"p. call(a,b,c,d,e,f,g,h) :- 1.")?;
+    assert_eq!(rt; refused, Some(wanted));
     Ok(())
+}
+
+/// Whether the goals of `p`, with three facts, are tried with those that may match.
+fn tells_candidates(base: &Base, p: AtomId, f: AtomId) -> bool {
+    let (one, two, three) = (ClauseId { at: 0 }, ClauseId { at: 1 }, ClauseId { at: 2 });
+    base.candidates(p, 1, FirstArg::Int(1)) == Some([one, three].as_slice())
+        && base.candidates(p, 1, FirstArg::Comp(f, 1)) == Some([three].as_slice())
+        && base.candidates(p, 1, FirstArg::Any) == Some([one, two, three].as_slice())
+        && base.candidates(f, 1, FirstArg::Any).is_none()
+        && base.count() == 3
+        && base.place(three) == 2
 }
 
 #[test]
@@ -56,15 +76,6 @@ fn candidates_of_a_goal(rt: HostRuntime) -> Result<(), Fail> {
     let mut atoms = Atoms::start(rt.alloc())?;
     let base = Base::load(rt.alloc(), b"p(1). p(a). p(X).", &mut atoms)?;
     let (p, f) = (atoms.intern("p")?, atoms.intern("f")?);
-    let (one, two, three) = (ClauseId { at: 0 }, ClauseId { at: 1 }, ClauseId { at: 2 });
-
-    let of_one = base.candidates(p, 1, FirstArg::Int(1));
-    assert!(rt; of_one == Some([one, three].as_slice()));
-    let of_compound = base.candidates(p, 1, FirstArg::Comp(f, 1));
-    assert!(rt; of_compound == Some([three].as_slice()));
-    let of_any = base.candidates(p, 1, FirstArg::Any);
-    assert!(rt; of_any == Some([one, two, three].as_slice()));
-    assert!(rt; base.candidates(f, 1, FirstArg::Any).is_none());
-    assert!(rt; base.count() == 3 && base.place(three) == 2);
+    assert!(rt; tells_candidates(&base, p, f));
     Ok(())
 }
