@@ -50,9 +50,9 @@ const MOST_TERMS: u64 = 1_000_000;
 
 impl From<NoMemory> for TermFault {
     ghost use Rattle.std.specs.Prelude.{◌≡◌};
-    ghost use Rattle.tp_clauses.specs.declared.directive.TermFault.TheVariants.{NoMemory as Refused};
+    ghost use Rattle.tp_clauses.specs.declared.directive.TermFault.TheVariants as fault;
 
-    ghost from_gives = { λ _ e. e ≡ Refused };
+    ghost from_gives = { λ _ e. e ≡ fault.NoMemory };
 
     fn from(_refused: NoMemory) -> Self {
         TermFault::NoMemory

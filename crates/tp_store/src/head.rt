@@ -48,7 +48,8 @@ pub fn unify_head(
     requires chains { IsChains chains.old }
     requires goal { goal.at < length chains.old.cells.items }
     requires head { head.root.at < length head.cells.now.items }
-    requires claimed { IsClaimed head.cells.now.items head.root.at head.base (length chains.old.trail.bound) }
+    requires claimed { IsClaimed head.cells.now.items head.root.at head.base
+        (length chains.old.trail.bound) }
     ensures chains { IsChains chains.new }
     ensures found { IfOk result
         (FindsHead (contents_of chains.old) (contents_of chains.new) goal
@@ -90,7 +91,8 @@ pub fn head_unifiable(chains: &mut Chains, goal: Ref, head: Variant<'_>) -> Resu
     requires chains { IsChains chains.old }
     requires goal { goal.at < length chains.old.cells.items }
     requires head { head.root.at < length head.cells.now.items }
-    requires claimed { IsClaimed head.cells.now.items head.root.at head.base (length chains.old.trail.bound) }
+    requires claimed { IsClaimed head.cells.now.items head.root.at head.base
+        (length chains.old.trail.bound) }
     ensures chains { IsChains chains.new }
     ensures found { IfOk result
         (HeadIsUnifiable (contents_of chains.old) goal head.entry.cells.now.items head.entry.root

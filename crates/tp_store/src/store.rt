@@ -242,7 +242,8 @@ impl Store {
         ensures unchanged { result ≢ Ok true → self.new ≡ self.old }
         ensures log_stays { result ≢ Ok true → log.new ≡ log.old }
         ensures terms { OnOk result (KeepsTerms self.old.cells self.new.cells) }
-        ensures named { OnOk result (NamesBoth head.entry.cells.now.items self.old.cells self.new.cells) }
+        ensures named { OnOk result
+            (NamesBoth head.entry.cells.now.items self.old.cells self.new.cells) }
         ensures store { IsStore self.new }
     {
         unify_head(&mut self.chains, goal, head, log)
