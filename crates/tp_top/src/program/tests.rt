@@ -169,3 +169,21 @@ fn worked_rows(rt: HostRuntime) -> Result<(), Fail> {
     assert_eq!(rt; sample_text(alloc, 2)?.as_str(), PAIR);
     Ok(())
 }
+
+#[test]
+fn numbers_the_statuses(rt: HostRuntime) {
+    for (status, number) in [
+        (Status::Found, 0),
+        (Status::No, 1),
+        (Status::Raised, 2),
+        (Status::Budget, 3),
+        (Status::Usage, 4),
+        (Status::Model, 5),
+        (Status::Goal, 6),
+        (Status::Read, 7),
+        (Status::Write, 8),
+        (Status::Memory, 9),
+    ] {
+        assert_eq!(rt; status.number(), number);
+    }
+}
