@@ -1,5 +1,8 @@
 """The models of bench/run: each function gives the text of a model, and its goal. bench/README.md says what each is for."""
+import pathlib
 import random
+
+EXAMPLES = pathlib.Path(__file__).resolve().parent.parent / "examples"
 
 # How deep the terms are that are evaluated, compared and copied.
 DEEP = 90_000
@@ -233,6 +236,26 @@ def grown():
     return counting(3_333_300)
 
 
+def example(name):
+    """The text of a model of examples/."""
+    return pathlib.Path(EXAMPLES, name).read_text(encoding="utf-8")
+
+
+def joinery():
+    """The first plan of examples/joinery: four orders, a saw and a paint booth."""
+    return example("joinery"), "plan(Saw, Booth)"
+
+
+def link():
+    """The first course of examples/link in which a frame is confirmed in time, though two are lost."""
+    return example("link"), "Lost = [_,_,_], transfer(1, 13, Lost)"
+
+
+def bank():
+    """The first breaks of examples/bank."""
+    return example("bank"), "breaks(Anna, Otto)"
+
+
 def sample():
     """The program's own model of 30,000 processes, by --sample: as many choices stand open, and one failure takes all back."""
     return "", "30000"
@@ -243,11 +266,11 @@ BENCHMARKS = [
     increments, million, length, operations, sorting, deep, copies, parts,
     queens, zebra, tak, table, names_table, derive, backtracks, facts,
     large, long, grown,
-    items, pipeline, sends, shop, sample,
+    items, pipeline, sends, shop, joinery, link, bank, sample,
 ]
 
 # Those with more processes than main.
-PROCESSES = [items, pipeline, sends, shop, sample]
+PROCESSES = [items, pipeline, sends, shop, joinery, link, bank, sample]
 
 # Those of them that processes.py has too.
 IN_SIMPY = [items, pipeline, sends]
