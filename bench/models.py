@@ -2,6 +2,7 @@
 import pathlib
 import random
 
+# Where the models of the examples are.
 EXAMPLES = pathlib.Path(__file__).resolve().parent.parent / "examples"
 
 # How deep the terms are that are evaluated, compared and copied.
@@ -238,7 +239,7 @@ def grown():
 
 def example(name):
     """The text of a model of examples/."""
-    return pathlib.Path(EXAMPLES, name).read_text(encoding="utf-8")
+    return (EXAMPLES / name).read_text(encoding="utf-8")
 
 
 def joinery():

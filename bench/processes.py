@@ -3,7 +3,7 @@
 
 processes.py NAME    items, pipeline or sends
 
-There is no shop: SimPy doesn't go back.
+There is no shop, joinery, link or bank: SimPy doesn't go back.
 """
 import sys
 
